@@ -1,0 +1,6 @@
+use mathlib.Core.Path.{refl}
+use Rattle.disk.proofs.Images.{sound-over}
+use Rattle.disk.proofs.image.ImageDisk.size.Needs as need
+
+pub returns : need.returns
+returns c = record { is = refl; sound = sound-over _ }
