@@ -1,1 +1,2 @@
 pub mod Fuses
+pub mod Rows

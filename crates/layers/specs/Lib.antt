@@ -1,2 +1,4 @@
 pub mod Layered
 pub mod Fusing
+pub mod Rows
+pub mod Tables

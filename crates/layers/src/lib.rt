@@ -2,4 +2,5 @@
 
 pub mod fuse;
 // pub mod hold;
-// mod table;
+mod kept;
+mod table;
