@@ -14,7 +14,6 @@ use Rattle.std.proofs.shelf.Parts.{take-putMid-below, drop-putMid}
 use Rattle.disk.specs.Meaning.{Contents, Whole}
 use Rattle.disk.specs.Sectors.{count, sector, written}
 
-
 -- a byte is its own remainder
 pub bytes-low : (x : List ℕ) → ((i : ℕ) → getD x i 0 < 256) → map (λ b. b % 256) x ≡ x
 bytes-low [] h = refl
@@ -37,7 +36,8 @@ whole-sector bytes n h =
     let r = room (length bytes) n h in
     record {
       long = simp (length-map, length-take, length-drop) (omega arith);
-      bytes = low-bytes (take 1024 (drop (1024 * n) bytes)) }
+      bytes = low-bytes (take 1024 (drop (1024 * n) bytes));
+    }
 
 -- a part of bytes is bytes
 drop-bytes : (k : ℕ) (x : List ℕ) → ((i : ℕ) → getD x i 0 < 256) → (i : ℕ) → getD (drop k x) i 0 < 256
@@ -81,32 +81,32 @@ module _ (xs ys : List ℕ) (n : ℕ) (inside : n < count xs) (whole : Whole ys)
   pub written-here : sector (written xs n ys) n ≡ ys
   unfolding sector written
   written-here =
-    let d = drop-at (take (1024 * n) xs) (ys ++ drop (1024 * n + 1024) xs) (1024 * n) front in
-    let t = take-at ys (drop (1024 * n + 1024) xs) 1024 (whole .long) in
-    ap (λ l. map (λ b. b % 256) (take 1024 l)) d ∙ (ap (map (λ b. b % 256)) t ∙ bytes-low ys (whole .bytes))
+      let d = drop-at (take (1024 * n) xs) (ys ++ drop (1024 * n + 1024) xs) (1024 * n) front in
+      let t = take-at ys (drop (1024 * n + 1024) xs) 1024 (whole .long) in
+      ap (λ l. map (λ b. b % 256) (take 1024 l)) d ∙ (ap (map (λ b. b % 256)) t ∙ bytes-low ys (whole .bytes))
 
   pub written-length : length (written xs n ys) ≡ length xs
   unfolding written
   written-length =
-    let f = fits in
-    let w = whole .long in
-    let t = front in
-    simp (length-append, length-drop) (omega arith)
+      let f = fits in
+      let w = whole .long in
+      let t = front in
+      simp (length-append, length-drop) (omega arith)
 
   below : (k : ℕ) → k < n → sector (written xs n ys) k ≡ sector xs k
   unfolding sector
   below k h =
-    let f = fits in
-    let e = drop-take (1024 * k) 1024 (written xs n ys) in
-    let g = drop-take (1024 * k) 1024 xs in
-    let t = ap (take (1024 * k + 1024)) part ∙ take-putMid-below (1024 * n) 1024 xs ys (1024 * k + 1024) (omega arith) (omega arith) in
-    let s : take 1024 (drop (1024 * k) (written xs n ys)) ≡ take 1024 (drop (1024 * k) xs) = cc in
-    ap (map (λ b. b % 256)) s
+      let f = fits in
+      let e = drop-take (1024 * k) 1024 (written xs n ys) in
+      let g = drop-take (1024 * k) 1024 xs in
+      let t = ap (take (1024 * k + 1024)) part ∙ take-putMid-below (1024 * n) 1024 xs ys (1024 * k + 1024) (omega arith) (omega arith) in
+      let s : take 1024 (drop (1024 * k) (written xs n ys)) ≡ take 1024 (drop (1024 * k) xs) = cc in
+      ap (map (λ b. b % 256)) s
 
   after : (a : ℕ) → 1024 * n + 1024 ≤ a → drop a (written xs n ys) ≡ drop a xs
   after a h =
-    let f = fits in
-    ap (drop a) part ∙ drop-putMid (1024 * n) 1024 xs ys a (omega arith) (omega arith) (whole .long)
+      let f = fits in
+      ap (drop a) part ∙ drop-putMid (1024 * n) 1024 xs ys a (omega arith) (omega arith) (whole .long)
 
   above : (k : ℕ) → n < k → sector (written xs n ys) k ≡ sector xs k
   unfolding sector

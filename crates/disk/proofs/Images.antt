@@ -28,7 +28,8 @@ module _ (bytes : List ℕ) where
   sound-over = record {
     shows = λ _ k h. inl refl;
     some = λ k h. (sector bytes k, inl refl);
-    whole = λ k x h i. subst Whole (sym (only i)) (whole-sector bytes k h) }
+    whole = λ k x h i. subst Whole (sym (only i)) (whole-sector bytes k h);
+  }
 
   settled-over : Settled (over bytes)
   settled-over k x h i = only i
@@ -38,14 +39,16 @@ module _ (bytes : List ℕ) where
     answers = cond-above n (count bytes) _ _ _ h (ap Err e);
     leaves = refl;
     never-gone = ap (λ (g : DiskFault). g .cause) e;
-    tail = refl }
+    tail = refl;
+  }
 
   pub does-outside-put : {n : ℕ} {x : Contents} {f : DiskFault} → f ≡ outside isImage n → count bytes ≤ n → ImageDoes bytes (putting n x) (Err f) bytes
   does-outside-put {n} e h = record {
     answers = cond-above n (count bytes) _ _ _ h (ap Err e);
     leaves = cond-above n (count bytes) _ _ _ h refl;
     never-gone = ap (λ (g : DiskFault). g .cause) e;
-    tail = refl }
+    tail = refl;
+  }
 
   pub gets-over : (n : ℕ) (old new : Contents) → n < count bytes → new ≡ sector bytes n → Gets (over bytes) n old (Ok tt) (over bytes) new
   gets-over n old new h e = record {
@@ -54,7 +57,8 @@ module _ (bytes : List ℕ) where
     shows = λ k lt. refl;
     fewer = λ k x lt i. i;
     calm = record { stays = λ c. c; accepts = λ c due. refl };
-    sound = sound-over }
+    sound = sound-over;
+  }
 
   pub does-get : (n : ℕ) → n < count bytes → ImageDoes bytes (getting n) (Ok tt) bytes
   does-get n h = record { answers = cond-below n (count bytes) _ _ h; leaves = refl; never-gone = tt; tail = refl }
@@ -66,7 +70,8 @@ module _ (bytes : List ℕ) where
     shows = λ k lt. refl;
     fewer = λ k x lt i. i;
     calm = record { stays = λ c. c; accepts = λ c due. refl };
-    sound = sound-over }
+    sound = sound-over;
+  }
 
   pub restarts-over : Restarts (over bytes) (Ok tt) (over bytes)
   restarts-over = record {
@@ -74,7 +79,8 @@ module _ (bytes : List ℕ) where
     size = refl;
     fewer = λ k x lt i. i;
     calm = record { stays = λ c. c; accepts = λ c due. refl };
-    sound = sound-over }
+    sound = sound-over;
+  }
 
 module _ (bytes : List ℕ) (n : ℕ) (x : Contents) (inside : n < count bytes) (whole : Whole x) where
   same-count : count (written bytes n x) ≡ count bytes
@@ -86,19 +92,21 @@ module _ (bytes : List ℕ) (n : ℕ) (x : Contents) (inside : n < count bytes) 
     size = same-count;
     others = λ k lt ne. written-others bytes x n inside whole k ne;
     adds = λ k y lt i.
-      ⊎-elim
+        ⊎-elim
         (λ (e : k ≡ n). inr (e, only i ∙ (ap (sector (written bytes n x)) e ∙ written-here bytes x n inside whole), refl))
         (λ ne. inl (inl (only i ∙ written-others bytes x n inside whole k ne)))
         (cases-eq k n);
     calm = record { stays = λ c. c; accepts = λ c due. refl };
-    sound = sound-over (written bytes n x) }
+    sound = sound-over (written bytes n x);
+  }
 
   put-does : ImageDoes bytes (putting n x) (Ok tt) (written bytes n x)
   put-does = record {
     answers = cond-below n (count bytes) _ _ inside;
     leaves = cond-below n (count bytes) _ _ inside;
     never-gone = tt;
-    tail = written-tail bytes x n inside whole }
+    tail = written-tail bytes x n inside whole;
+  }
 
   module _ {bytes′ : List ℕ} (is : bytes′ ≡ written bytes n x) where
     pub puts-over : Puts (over bytes) n x (Ok tt) (over bytes′)

@@ -20,7 +20,8 @@ module _ (m : Meaning) (sound : Sound m) {l : Layer} {n : ℕ} where
     shows = λ k lt. refl;
     fewer = λ k x lt i. i;
     calm = record { stays = λ e. e; accepts = λ e due. let d = due .1 in absurd (omega arith) };
-    sound = sound }
+    sound = sound;
+  }
 
   outside-put : (bytes : Contents) → m .size ≤ n → Puts m n bytes (Err (outside l n)) m
   outside-put bytes h = record {
@@ -29,7 +30,8 @@ module _ (m : Meaning) (sound : Sound m) {l : Layer} {n : ℕ} where
     others = λ k lt ne. refl;
     adds = λ k x lt i. inl i;
     calm = record { stays = λ e. e; accepts = λ e due. let d = due .1 in absurd (omega arith) };
-    sound = sound }
+    sound = sound;
+  }
 
   gone-get : m .live ≡ false → (old : Contents) → n < m .size → Gets m n old (Err (gone l n)) m old
   gone-get dead old h = record {
@@ -38,7 +40,8 @@ module _ (m : Meaning) (sound : Sound m) {l : Layer} {n : ℕ} where
     shows = λ k lt. refl;
     fewer = λ k x lt i. i;
     calm = record { stays = λ e. e; accepts = λ e due. absurd (both-ways (m .live) dead (due .0)) };
-    sound = sound }
+    sound = sound;
+  }
 
   gone-put : m .live ≡ false → (bytes : Contents) → n < m .size → Puts m n bytes (Err (gone l n)) m
   gone-put dead bytes h = record {
@@ -47,7 +50,8 @@ module _ (m : Meaning) (sound : Sound m) {l : Layer} {n : ℕ} where
     others = λ k lt ne. refl;
     adds = λ k x lt i. inl i;
     calm = record { stays = λ e. e; accepts = λ e due. absurd (both-ways (m .live) dead (due .0)) };
-    sound = sound }
+    sound = sound;
+  }
 
   -- the same of a fault f that a function made
   module _ {f : DiskFault} where
@@ -71,7 +75,8 @@ module _ (m : Meaning) (sound : Sound m) {l : Layer} where
     shows = λ k lt. refl;
     fewer = λ k x lt i. i;
     calm = record { stays = λ e. e; accepts = λ e due. absurd (both-ways (m .live) dead due) };
-    sound = sound }
+    sound = sound;
+  }
 
   pub settles-gone : {f : DiskFault} → f ≡ gone l 0 → m .live ≡ false → Settles m (Err f) m
   settles-gone e dead = subst (λ g. Settles m (Err g) m) (sym e) (gone-settle dead)

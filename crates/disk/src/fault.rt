@@ -29,13 +29,21 @@ impl DiskFault {
     pub fn outside(layer: Layer, sector: usize) -> DiskFault
         ensures { λ r. ⌜ r ≡ is-outside layer sector ⌝ }
     {
-        DiskFault { layer, cause: Cause::Outside, sector }
+        DiskFault {
+            layer,
+            cause: Cause::Outside,
+            sector,
+        }
     }
 
     /// The disk does not answer.
     pub fn gone(layer: Layer, sector: usize) -> DiskFault
         ensures { λ r. ⌜ r ≡ is-gone layer sector ⌝ }
     {
-        DiskFault { layer, cause: Cause::Gone, sector }
+        DiskFault {
+            layer,
+            cause: Cause::Gone,
+            sector,
+        }
     }
 }

@@ -31,7 +31,8 @@ module _ (m m′ : Meaning) (n : ℕ) (x : Contents) (j k : ℕ) where
     others = p .others;
     adds = p .adds;
     calm = record { stays = λ e. absurd (both-ways false refl e); accepts = λ e. absurd (both-ways false refl e) };
-    sound = record { shows = p .sound .shows; some = p .sound .some; whole = p .sound .whole } }
+    sound = record { shows = p .sound .shows; some = p .sound .some; whole = p .sound .whole };
+  }
 
 pub puts-counted : (m m′ : Meaning) (n : ℕ) (x : Contents) (s : FuseState) (j k : ℕ) (r : Answer) → s ≡ Counting j → Puts m n x r m′ → Puts (fused s m) n x r (fused (Counting k) m′)
 puts-counted m m′ n x s j k r is p = subst (λ t. Puts (fused t m) n x r (fused (Counting k) m′)) (sym is) (counted m m′ n x j k r p)
@@ -41,4 +42,4 @@ pub passes : (D : Type 0) (does : D → Request → Answer → D → Type 0) (N 
     s ≡ Counting k → k ≡ suc rest → n < N → does d (putting n x) r d′ → FuseDoes does N s d (putting n x) r (Counting rest) d′
 passes D does N n k rest x s d d′ r is more inside h =
     subst (λ t. FuseDoes does N t d (putting n x) r (Counting rest) d′) (sym (is ∙ ap Counting more))
-      (record { beyond = λ ge. absurd (omega arith); within = λ _. record { asked = h; memory = refl } })
+    (record { beyond = λ ge. absurd (omega arith); within = λ _. record { asked = h; memory = refl } })

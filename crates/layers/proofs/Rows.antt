@@ -28,8 +28,8 @@ pub at-append : (p q : List Kept) (k : ℕ) → at (p ++ q) k ≡ first (at p k)
 at-append [] q k = refl
 at-append (y ∷ p) q k =
     elim (eqb (y .sector) k)
-      as (λ b. cond b (Some (y .bytes)) (at (p ++ q) k) ≡ first (cond b (Some (y .bytes)) (at p k)) (at q k))
-      [ true ↦ refl | false ↦ at-append p q k ]
+    as (λ b. cond b (Some (y .bytes)) (at (p ++ q) k) ≡ first (cond b (Some (y .bytes)) (at p k)) (at q k))
+    [ true ↦ refl | false ↦ at-append p q k ]
 
 pub bool-absurd : {X : Type 0} → false ≡ true → X
 bool-absurd e = absurd (both-ways false refl e)
@@ -97,18 +97,18 @@ pub swapped : (p q : List Kept) (y v : Kept) (n : ℕ) → at p n ≡ None → y
     (k : ℕ) → at (p ++ v ∷ q) k ≡ cond (eqb n k) (Some (v .bytes)) (at (p ++ y ∷ q) k)
 swapped p q y v n h ey ev k =
     ⊎-elim
-      (λ e. rw (eq-eqb n k e) (subst (λ m. at (p ++ v ∷ q) m ≡ Some (v .bytes)) e (found p q v n h ev)))
-      (λ ne. rw (ne-eqb n k ne) (passed p q v k (λ e. ne (sym ev ∙ e)) ∙ sym (passed p q y k (λ e. ne (sym ey ∙ e)))))
-      (cases-eq n k)
+    (λ e. rw (eq-eqb n k e) (subst (λ m. at (p ++ v ∷ q) m ≡ Some (v .bytes)) e (found p q v n h ev)))
+    (λ ne. rw (ne-eqb n k ne) (passed p q v k (λ e. ne (sym ev ∙ e)) ∙ sym (passed p q y k (λ e. ne (sym ey ∙ e)))))
+    (cases-eq n k)
 
 -- one row more
 pub pushed : (p : List Kept) (v : Kept) (n : ℕ) → at p n ≡ None → v .sector ≡ n →
     (k : ℕ) → at (p ++ v ∷ []) k ≡ cond (eqb n k) (Some (v .bytes)) (at p k)
 pushed p v n h ev k =
     ⊎-elim
-      (λ e. rw (eq-eqb n k e) (subst (λ m. at (p ++ v ∷ []) m ≡ Some (v .bytes)) e (found p [] v n h ev)))
-      (λ ne. rw (ne-eqb n k ne) (passed p [] v k (λ e. ne (sym ev ∙ e)) ∙ ap (λ l. at l k) (append-nil p)))
-      (cases-eq n k)
+    (λ e. rw (eq-eqb n k e) (subst (λ m. at (p ++ v ∷ []) m ≡ Some (v .bytes)) e (found p [] v n h ev)))
+    (λ ne. rw (ne-eqb n k ne) (passed p [] v k (λ e. ne (sym ev ∙ e)) ∙ ap (λ l. at l k) (append-nil p)))
+    (cases-eq n k)
 
 none-swapped : (p q : List Kept) (y v : Kept) → v .sector ≡ y .sector → (k : ℕ) → at (p ++ y ∷ q) k ≡ None → at (p ++ v ∷ q) k ≡ None
 none-swapped [] q y v e k h = let g = none-head y q k h in at-other v q k (λ f. g .0 (sym e ∙ f)) ∙ g .1
@@ -158,24 +158,26 @@ rows-missing rows n i p le = sym (ap (λ l. at l n) (take-all i rows le)) ∙ p 
 module _ (xs : List Kept) (c : ℕ) (le : c ≤ length xs) where
   pub place-here : (i n : ℕ) → i < c → at (take i xs) n ≡ None → getD xs i blank .sector ≡ n → Place (take c xs) n i
   place-here i n lt h e =
-    let len = length-take-le c xs le in
-    record {
-      within = omega arith;
-      before = ap (λ l. at l n) (take-take i c xs (omega arith)) ∙ h;
-      here = λ _. ap (λ (r : Kept). r .sector) (getD-take c xs i blank lt) ∙ e }
+      let len = length-take-le c xs le in
+      record {
+        within = omega arith;
+        before = ap (λ l. at l n) (take-take i c xs (omega arith)) ∙ h;
+        here = λ _. ap (λ (r : Kept). r .sector) (getD-take c xs i blank lt) ∙ e;
+      }
 
   pub place-end : (n : ℕ) → at (take c xs) n ≡ None → Place (take c xs) n c
   place-end n h =
-    let len = length-take-le c xs le in
-    record {
-      within = omega arith;
-      before = ap (λ l. at l n) (take-all c (take c xs) (omega arith)) ∙ h;
-      here = λ lt. absurd (omega arith) }
+      let len = length-take-le c xs le in
+      record {
+        within = omega arith;
+        before = ap (λ l. at l n) (take-all c (take c xs) (omega arith)) ∙ h;
+        here = λ lt. absurd (omega arith);
+      }
 
   pub copied : (n i : ℕ) → Place (take c xs) n i → i < c → at (take c xs) n ≡ Some (getD xs i blank .bytes)
   copied n i p lt =
-    let len = length-take-le c xs le in
-    rows-found (take c xs) n i p (omega arith) ∙ ap (λ (r : Kept). Some (r .bytes)) (getD-take c xs i blank lt)
+      let len = length-take-le c xs le in
+      rows-found (take c xs) n i p (omega arith) ∙ ap (λ (r : Kept). Some (r .bytes)) (getD-take c xs i blank lt)
 
   pub missing : (n i : ℕ) → Place (take c xs) n i → c ≤ i → at (take c xs) n ≡ None
   missing n i p ge = let len = length-take-le c xs le in rows-missing (take c xs) n i p (omega arith)
@@ -183,33 +185,33 @@ module _ (xs : List Kept) (c : ℕ) (le : c ≤ length xs) where
   module _ (v : Kept) (n i : ℕ) (p : Place (take c xs) n i) (ev : v .sector ≡ n) where
     pub kept-in : i < c → (k : ℕ) → at (take c (set xs i v)) k ≡ cond (eqb n k) (Some (v .bytes)) (at (take c xs) k)
     kept-in lt k =
-      let len = length-take-le c xs le in
-      let r = take c xs in
-      let lr : i < length (take c xs) = omega arith in
-      let e = take-set-lt c xs i v lt ∙ set-split r i v lr in
-      let g = swapped (take i r) (drop (suc i) r) (getD r i blank) v n (p .before) (p .here lr) ev k in
-      ap (λ l. at l k) e ∙ (g ∙ ap (λ l. cond (eqb n k) (Some (v .bytes)) (at l k)) (sym (split r i lr)))
+        let len = length-take-le c xs le in
+        let r = take c xs in
+        let lr : i < length (take c xs) = omega arith in
+        let e = take-set-lt c xs i v lt ∙ set-split r i v lr in
+        let g = swapped (take i r) (drop (suc i) r) (getD r i blank) v n (p .before) (p .here lr) ev k in
+        ap (λ l. at l k) e ∙ (g ∙ ap (λ l. cond (eqb n k) (Some (v .bytes)) (at l k)) (sym (split r i lr)))
 
     pub tidy-in : i < c → Whole (v .bytes) → tidy (take c xs) ≡ true → tidy (take c (set xs i v)) ≡ true
     tidy-in lt full t =
-      let len = length-take-le c xs le in
-      let r = take c xs in
-      let lr : i < length (take c xs) = omega arith in
-      let e = take-set-lt c xs i v lt ∙ set-split r i v lr in
-      let a = from-tidy _ (ap tidy (sym (split r i lr)) ∙ t) in
-      ap tidy e ∙ to-tidy _ (apart-swapped (take i r) (drop (suc i) r) (getD r i blank) v (ev ∙ sym (p .here lr)) full a)
+        let len = length-take-le c xs le in
+        let r = take c xs in
+        let lr : i < length (take c xs) = omega arith in
+        let e = take-set-lt c xs i v lt ∙ set-split r i v lr in
+        let a = from-tidy _ (ap tidy (sym (split r i lr)) ∙ t) in
+        ap tidy e ∙ to-tidy _ (apart-swapped (take i r) (drop (suc i) r) (getD r i blank) v (ev ∙ sym (p .here lr)) full a)
 
     pub kept-end : i ≡ c → c < length xs → (k : ℕ) → at (take (i + 1) (set xs i v)) k ≡ cond (eqb n k) (Some (v .bytes)) (at (take c xs) k)
     kept-end is lt k =
-      let m = missing n i p (omega arith) in
-      let e : take (i + 1) (set xs i v) ≡ take c xs ++ v ∷ [] = take-more-set xs i v (omega arith) ∙ ap (λ j. take j xs ++ v ∷ []) is in
-      ap (λ l. at l k) e ∙ pushed (take c xs) v n m ev k
+        let m = missing n i p (omega arith) in
+        let e : take (i + 1) (set xs i v) ≡ take c xs ++ v ∷ [] = take-more-set xs i v (omega arith) ∙ ap (λ j. take j xs ++ v ∷ []) is in
+        ap (λ l. at l k) e ∙ pushed (take c xs) v n m ev k
 
     pub tidy-end : i ≡ c → c < length xs → Whole (v .bytes) → tidy (take c xs) ≡ true → tidy (take (i + 1) (set xs i v)) ≡ true
     tidy-end is lt full t =
-      let m = missing n i p (omega arith) in
-      let e : take (i + 1) (set xs i v) ≡ take c xs ++ v ∷ [] = take-more-set xs i v (omega arith) ∙ ap (λ j. take j xs ++ v ∷ []) is in
-      ap tidy e ∙ to-tidy _ (apart-pushed (take c xs) v (ap (at (take c xs)) ev ∙ m) full (from-tidy _ t))
+        let m = missing n i p (omega arith) in
+        let e : take (i + 1) (set xs i v) ≡ take c xs ++ v ∷ [] = take-more-set xs i v (omega arith) ∙ ap (λ j. take j xs ++ v ∷ []) is in
+        ap tidy e ∙ to-tidy _ (apart-pushed (take c xs) v (ap (at (take c xs)) ev ∙ m) full (from-tidy _ t))
 
 -- the last row
 module _ (s : List Kept) (y : Kept) (t : tidy s ≡ true) (last : s ≡ take (length s - 1) s ++ (y ∷ [])) where
@@ -219,15 +221,29 @@ module _ (s : List Kept) (y : Kept) (t : tidy s ≡ true) (last : s ≡ take (le
   pub kept-last : at s (y .sector) ≡ Some (y .bytes)
   kept-last = ap (λ l. at l (y .sector)) last ∙ found (take (length s - 1) s) [] y _ (popped .1) refl
 
-  pub without-last : Without s (y .sector) (take (length s - 1) s)
+  without-last : Without s (y .sector) (take (length s - 1) s)
   without-last = record {
     gone = popped .1;
-    others = λ k ne. sym (ap (λ l. at l k) last ∙ (passed (take (length s - 1) s) [] y k (λ e. ne (sym e)) ∙ ap (λ l. at l k) (append-nil (take (length s - 1) s)))) }
+    others = λ k ne. sym (ap (λ l. at l k) last ∙ (passed (take (length s - 1) s) [] y k (λ e. ne (sym e)) ∙ ap (λ l. at l k) (append-nil (take (length s - 1) s))));
+  }
 
-  pub fewer-last : length (take (length s - 1) s) < length s
+  fewer-last : length (take (length s - 1) s) < length s
   fewer-last =
-    let e = ap length last ∙ length-append (take (length s - 1) s) (y ∷ []) in
-    omega arith
+      let e = ap length last ∙ length-append (take (length s - 1) s) (y ∷ []) in
+      omega arith
+
+-- a table without its last row y
+pub record Popped (s : List Kept) (y : Kept) (s′ : List Kept) : Type 0 where
+  pub kept : at s (y .sector) ≡ Some (y .bytes)
+  pub without : Without s (y .sector) s′
+  pub fewer : length s′ < length s
+
+pub popped-row : (s s′ : List Kept) (y : Kept) → tidy s ≡ true → s ≡ take (length s - 1) s ++ (y ∷ []) → s′ ≡ take (length s - 1) s → Popped s y s′
+popped-row s s′ y t last is = subst (Popped s y) (sym is) (record {
+  kept = kept-last s y t last;
+  without = without-last s y t last;
+  fewer = fewer-last s y t last;
+})
 
 pub last-row : (xs : List Kept) (c : ℕ) → c ≤ length xs → 0 < c → take c xs ≡ take (length (take c xs) - 1) (take c xs) ++ (getD xs (c - 1) blank ∷ [])
 last-row xs c le some =
@@ -255,9 +271,9 @@ whole-apart : (rows : List Kept) → Apart rows → (n : ℕ) (c : Contents) →
 whole-apart [] a n c e = none-is-not (sym e)
 whole-apart (y ∷ q) a n c e =
     ⊎-elim
-      (λ s. let g = sym (at-same y q n s) ∙ e in let f : y .bytes ≡ c = cc in subst Whole f (a .1))
-      (λ ne. whole-apart q (a .2) n c (sym (at-other y q n ne) ∙ e))
-      (cases-eq (y .sector) n)
+    (λ s. let g = sym (at-same y q n s) ∙ e in let f : y .bytes ≡ c = cc in subst Whole f (a .1))
+    (λ ne. whole-apart q (a .2) n c (sym (at-other y q n ne) ∙ e))
+    (cases-eq (y .sector) n)
 
 -- a kept sector is whole
 pub whole : (rows : List Kept) → tidy rows ≡ true → (n : ℕ) (c : Contents) → at rows n ≡ Some c → Whole c

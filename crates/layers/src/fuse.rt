@@ -27,7 +27,10 @@ impl<D: Disk> Fuse<D> {
         ensures below { λ r. ⌜ r .below ≡ below ⌝ }
         ensures state { λ r. ⌜ r .state ≡ isCounting passes ⌝ }
     {
-        Fuse { below, state: FuseState::Counting(passes) }
+        Fuse {
+            below,
+            state: FuseState::Counting(passes),
+        }
     }
 }
 

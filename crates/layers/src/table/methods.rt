@@ -1,6 +1,7 @@
 ghost use mathlib.Core.Path.{_≡_};
 ghost use mathlib.Core.List.{[]};
 ghost use Prim.Native.Nat.{_-_};
+ghost use lib.Dec.{eqb};
 ghost use lib.ListN.{length, take};
 ghost use Rattle.layers.specs.Rows.{at, Place, Copied, Kept-or-full};
 ghost use Rattle.layers.specs.Tables.{rows, Last};
@@ -11,7 +12,13 @@ impl Table {
     pub(crate) fn new() -> Table
         ensures { λ r. ⌜ rows r ≡ [] ⌝ }
     {
-        Table { slots: [Kept { sector: 0, bytes: [0; 1024] }; 16], count: 0 }
+        Table {
+            slots: [Kept {
+                sector: 0,
+                bytes: [0; 1024],
+            }; 16],
+            count: 0,
+        }
     }
 
     /// Keeps nothing more.
@@ -19,6 +26,13 @@ impl Table {
         ensures { λ _. ⌜ rows (now (self .exit)) ≡ [] ⌝ }
     {
         self.count = 0;
+    }
+
+    /// Whether nothing is kept.
+    pub(crate) fn is_empty(&self) -> bool
+        ensures { λ r. ⌜ r ≡ eqb (length (rows (now (self .entry)))) 0 ⌝ }
+    {
+        self.count == 0
     }
 
     /// Where sector `n` stands, or the number of kept sectors.
@@ -50,7 +64,10 @@ impl Table {
         ensures { λ r. ⌜ Kept-or-full (rows (now (self .entry))) n (now (bytes .entry)) r (rows (now (self .exit))) ⌝ }
     {
         let i = self.place(n);
-        let row = Kept { sector: n, bytes: *bytes };
+        let row = Kept {
+            sector: n,
+            bytes: *bytes,
+        };
         if i < self.count {
             self.slots[i] = row;
             return true;

@@ -10,4 +10,5 @@ returns c =
     let is : (1024 * c .args .n + 1024) - 1024 * c .args .n ≡ 1024 = omega arith in
     record {
       after = written-part (c .args .all .now) (c .copy-in .last .part) (c .args .n) _ is ∙ ap (written (c .args .all .now) (c .args .n)) (c .copy-in .ensures);
-      whole = record { long = c .told-bytes; bytes = c .fits-bytes } }
+      whole = record { long = c .told-bytes; bytes = c .fits-bytes };
+    }

@@ -9,4 +9,5 @@ returns-in-Some g c =
     let more : c .in-Counting .left ≡ suc (c .in-Some .rest) = omega (arith, c .in-Some .ensures tt) in
     record {
       rule = puts-counted _ _ _ _ _ _ (c .in-Some .rest) _ (c .in-Counting .is) (c .put .ensures .rule);
-      done = passes _ (g .D·Disk .does) _ _ _ _ _ _ _ _ _ (c .in-Counting .is) more (omega (arith, c .size .ensures .is)) (c .put .ensures .done) }
+      done = passes _ (g .D·Disk .does) _ _ _ _ _ _ _ _ _ (c .in-Counting .is) more (omega (arith, c .size .ensures .is)) (c .put .ensures .done);
+    }
