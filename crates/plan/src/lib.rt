@@ -1,0 +1,6 @@
+//! A plan of puts and settles, read line by line: `SIZE,n`, then any number of `PUT,n,text` and `SETTLE`.
+
+pub mod fault;
+pub mod line;
+pub mod step;
+pub mod reader;
