@@ -31,13 +31,17 @@ fn find_comma(s: &[u8]) -> usize
 
 /// The first field and what follows its comma, if there is a comma.
 pub fn split(s: &[u8]) -> Option<(&[u8], &[u8])>
-    ensures {
-        λ r. ⌜ elim r [ Some p ↦ (parted (now (s .entry)) ≡ true) × (now (p .0) ≡ field (now (s .entry))) × (now (p .1) ≡ rest (now (s .entry)))
-            | None ↦ parted (now (s .entry)) ≡ false ] ⌝
-    }
+    ensures { λ r. ⌜ elim r [
+      | Some p ↦ (parted (now (s .entry)) ≡ true) × (now (p .0) ≡ field (now (s .entry))) × (now (p .1) ≡ rest (now (s .entry)))
+      | None ↦ parted (now (s .entry)) ≡ false
+    ] ⌝ }
 {
     let i = find_comma(s);
-    if i < s.len() { Some((&s[0..i], &s[i + 1..])) } else { None }
+    if i < s.len() {
+        Some((&s[0..i], &s[i + 1..]))
+    } else {
+        None
+    }
 }
 
 fn is_digit(b: u8) -> bool

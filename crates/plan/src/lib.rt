@@ -2,5 +2,5 @@
 
 pub mod fault;
 pub mod line;
-pub mod step;
 pub mod reader;
+pub mod step;

@@ -65,7 +65,10 @@ impl Plan {
         ensures size { λ r. ⌜ r .size ≡ None ⌝ }
         ensures steps { λ r. ⌜ vec-items (r .steps) ≡ [] ⌝ }
     {
-        Plan { size: None, steps: Vec::new(heap) }
+        Plan {
+            size: None,
+            steps: Vec::new(heap),
+        }
     }
 
     /// The number of sectors, once SIZE was read.
@@ -118,7 +121,10 @@ impl Plan {
         if text.len() > 1024 || !is_printable(text) {
             return Err(LineFault::Text);
         }
-        self.add(Step::Put { sector, bytes: fill(text) })
+        self.add(Step::Put {
+            sector,
+            bytes: fill(text),
+        })
     }
 
     fn read_settle(&mut self) -> Result<(), LineFault>

@@ -1,3 +1,4 @@
 pub mod Reaches
 pub mod Steps
 pub mod Judges
+pub mod Stops

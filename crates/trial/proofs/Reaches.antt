@@ -15,7 +15,7 @@ use Rattle.trial.specs.Endings.{isPut, reach}
 module _ (e : Ending) (ss : List Step) (i : ℕ) (f : DiskFault) (is : e ≡ Stopped i f) where
   at-step : (b : Bool) (d : Step) → i < length ss → b ≡ isPut (getD ss i d) → reach e ss ≡ cond b (i + 1) i
   at-step b d lt h =
-    ap (λ x. reach x ss) is ∙ ap (λ b. cond b (i + 1) i) (ap isPut (getD-default ss i Settle d lt) ∙ sym h)
+      ap (λ x. reach x ss) is ∙ ap (λ b. cond b (i + 1) i) (ap isPut (getD-default ss i Settle d lt) ∙ sym h)
 
   pub reach-put : (d : Step) → i < length ss → true ≡ isPut (getD ss i d) → i + 1 ≡ reach e ss
   reach-put d lt h = sym (at-step true d lt h)

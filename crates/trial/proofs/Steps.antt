@@ -51,7 +51,8 @@ kept-none m s = record {
   sound = s;
   calm = λ c. c;
   allows = λ fresh k x lt i. inl (fresh .settled k x lt i);
-  shows = λ fresh k lt. refl }
+  shows = λ fresh k lt. refl;
+}
 
 module _ (m₀ m m′ : Meaning) (ss : List Step) (kept : Kept m₀ ss m) where
   inside : {k : ℕ} → k < m₀ .size → k < m .size
@@ -64,23 +65,23 @@ module _ (m₀ m m′ : Meaning) (ss : List Step) (kept : Kept m₀ ss m) where
   put-allows : (n : ℕ) (x : Contents) (r : Answer) → Puts m n x r m′ → Fresh m₀ → Allows m₀ (ss ++ (Put n x ∷ [])) m′
   unfolding allowed
   put-allows n x r p fresh k y lt i =
-    subst (In y) (sym (leaves-more k (m₀ .shown k ∷ []) ss (Put n x)))
+      subst (In y) (sym (leaves-more k (m₀ .shown k ∷ []) ss (Put n x)))
       (⊎-elim
-        (λ j. add-wider (eqb n k) x y (allowed k) (kept .allows fresh k y lt j))
-        (λ j. add-here n k x y (allowed k) (j .0) (j .1))
-        (p .adds k y (inside lt) i))
+      (λ j. add-wider (eqb n k) x y (allowed k) (kept .allows fresh k y lt j))
+      (λ j. add-here n k x y (allowed k) (j .0) (j .1))
+      (p .adds k y (inside lt) i))
 
   put-shows : (n : ℕ) (x : Contents) → Puts m n x (Ok tt) m′ → Fresh m₀ → (k : ℕ) → k < m₀ .size →
-    newest (leaves k (m₀ .shown k ∷ []) (ss ++ (Put n x ∷ []))) ≡ m′ .shown k ∷ []
+      newest (leaves k (m₀ .shown k ∷ []) (ss ++ (Put n x ∷ []))) ≡ m′ .shown k ∷ []
   unfolding allowed
   put-shows n x p fresh k lt =
-    ap newest (leaves-more k (m₀ .shown k ∷ []) ss (Put n x))
-    ∙ ⊎-elim
+      ap newest (leaves-more k (m₀ .shown k ∷ []) ss (Put n x))
+      ∙ ⊎-elim
       (λ (e : k ≡ n).
-        ap (λ b. newest (cond b (x ∷ allowed k) (allowed k))) (eq-eqb n k (sym e)) ∙ ap (λ z. z ∷ []) (sym (ap (m′ .shown) e ∙ p .answer .shown)))
+      ap (λ b. newest (cond b (x ∷ allowed k) (allowed k))) (eq-eqb n k (sym e)) ∙ ap (λ z. z ∷ []) (sym (ap (m′ .shown) e ∙ p .answer .shown)))
       (λ ne.
-        ap (λ b. newest (cond b (x ∷ allowed k) (allowed k))) (ne-eqb n k (λ e. ne (sym e)))
-        ∙ (kept .shows fresh k lt ∙ ap (λ z. z ∷ []) (sym (p .others k (inside lt) ne))))
+      ap (λ b. newest (cond b (x ∷ allowed k) (allowed k))) (ne-eqb n k (λ e. ne (sym e)))
+      ∙ (kept .shows fresh k lt ∙ ap (λ z. z ∷ []) (sym (p .others k (inside lt) ne))))
       (cases-eq k n)
 
   kept-put : (n : ℕ) (x : Contents) → Puts m n x (Ok tt) m′ → Kept m₀ (ss ++ (Put n x ∷ [])) m′
@@ -89,7 +90,8 @@ module _ (m₀ m m′ : Meaning) (ss : List Step) (kept : Kept m₀ ss m) where
     sound = p .sound;
     calm = λ c. p .calm .stays (kept .calm c);
     allows = put-allows n x (Ok tt) p;
-    shows = put-shows n x p }
+    shows = put-shows n x p;
+  }
 
   kept-settle : Settles m (Ok tt) m′ → Kept m₀ (ss ++ (Settle ∷ [])) m′
   unfolding allowed
@@ -98,12 +100,13 @@ module _ (m₀ m m′ : Meaning) (ss : List Step) (kept : Kept m₀ ss m) where
     sound = p .sound;
     calm = λ c. p .calm .stays (kept .calm c);
     allows = λ fresh k y lt i.
-      let lt′ = subst (λ z. k < z) (sym (p .size)) (inside lt) in
-      let is = p .answer .settled k y lt′ i ∙ p .shows k (inside lt) in
-      subst (In y) (sym (leaves-more k (m₀ .shown k ∷ []) ss Settle)) (subst (In y) (sym (kept .shows fresh k lt)) (inl is));
+        let lt′ = subst (λ z. k < z) (sym (p .size)) (inside lt) in
+        let is = p .answer .settled k y lt′ i ∙ p .shows k (inside lt) in
+        subst (In y) (sym (leaves-more k (m₀ .shown k ∷ []) ss Settle)) (subst (In y) (sym (kept .shows fresh k lt)) (inl is));
     shows = λ fresh k lt.
-      ap newest (leaves-more k (m₀ .shown k ∷ []) ss Settle)
-      ∙ (newest-twice (allowed k) ∙ (kept .shows fresh k lt ∙ ap (λ z. z ∷ []) (sym (p .shows k (inside lt))))) }
+        ap newest (leaves-more k (m₀ .shown k ∷ []) ss Settle)
+        ∙ (newest-twice (allowed k) ∙ (kept .shows fresh k lt ∙ ap (λ z. z ∷ []) (sym (p .shows k (inside lt)))));
+  }
 
   pub kept-more : (s : Step) → Rule s m (Ok tt) m′ → Kept m₀ (ss ++ (s ∷ [])) m′
   kept-more (Put n x) p = kept-put n x p
@@ -123,15 +126,17 @@ module _ (m₀ m m′ : Meaning) (ss : List Step) (i : ℕ) (f : DiskFault) (lt 
     sound = p .sound;
     calm = λ c. p .calm .stays (kept .calm c);
     allows = λ fresh.
-      let e = ap (λ b. take (cond b (i + 1) i) ss) (ap isPut is) ∙ (take-more ss i Settle lt ∙ ap (λ s. take i ss ++ (s ∷ [])) is) in
-      subst (λ l. Allows m₀ l m′) (sym e) (refused-put m₀ m m′ (take i ss) kept n x f p fresh) }
+        let e = ap (λ b. take (cond b (i + 1) i) ss) (ap isPut is) ∙ (take-more ss i Settle lt ∙ ap (λ s. take i ss ++ (s ∷ [])) is) in
+        subst (λ l. Allows m₀ l m′) (sym e) (refused-put m₀ m m′ (take i ss) kept n x f p fresh);
+  }
   stopped-at Settle is p = record {
     size = p .size ∙ kept .size;
     sound = p .sound;
     calm = λ c. p .calm .stays (kept .calm c);
     allows = λ fresh.
-      let e = ap (λ b. take (cond b (i + 1) i) ss) (ap isPut is) in
-      subst (λ l. Allows m₀ l m′) (sym e) (refused-settle m₀ m m′ (take i ss) kept f p fresh) }
+        let e = ap (λ b. take (cond b (i + 1) i) ss) (ap isPut is) in
+        subst (λ l. Allows m₀ l m′) (sym e) (refused-settle m₀ m m′ (take i ss) kept f p fresh);
+  }
 
   pub ran-stopped : Rule (getD ss i Settle) m (Err f) m′ → Ran m₀ ss (Stopped i f) m′
   ran-stopped p = stopped-at (getD ss i Settle) refl p
@@ -141,4 +146,5 @@ ran-finished m₀ m ss i e kept = record {
   size = kept .size;
   sound = kept .sound;
   calm = kept .calm;
-  allows = λ fresh. subst (λ j. Allows m₀ (take j ss) m) (sym e) (kept .allows fresh) }
+  allows = λ fresh. subst (λ j. Allows m₀ (take j ss) m) (sym e) (kept .allows fresh);
+}

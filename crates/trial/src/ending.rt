@@ -30,7 +30,11 @@ impl Ending {
             Ending::Finished => steps.len(),
             Ending::Stopped { step, .. } => {
                 let i = *step;
-                if i < steps.len() && is_put(&steps[i]) { i + 1 } else { i }
+                if i < steps.len() && is_put(&steps[i]) {
+                    i + 1
+                } else {
+                    i
+                }
             }
         }
     }

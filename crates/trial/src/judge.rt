@@ -30,9 +30,15 @@ fn next(judged: Judged, step: &Step, sector: usize, shown: &[u8; 1024]) -> Judge
                 return judged;
             }
             let newest = fields::same(bytes, shown);
-            Judged { newest, allowed: newest || judged.allowed }
+            Judged {
+                newest,
+                allowed: newest || judged.allowed,
+            }
         }
-        Step::Settle => Judged { newest: judged.newest, allowed: judged.newest },
+        Step::Settle => Judged {
+            newest: judged.newest,
+            allowed: judged.newest,
+        },
     }
 }
 
@@ -41,7 +47,10 @@ pub fn allowed(steps: &[Step], sector: usize, shown: &[u8; 1024]) -> bool
     ensures { λ r. ⌜ r ≡ among (now (shown .entry)) (leaves sector (blank ∷ []) (now (steps .entry))) ⌝ }
 {
     let blank = is_blank(shown);
-    let mut judged = Judged { newest: blank, allowed: blank };
+    let mut judged = Judged {
+        newest: blank,
+        allowed: blank,
+    };
     for i in 0..steps.len() {
         judged = next(judged, &steps[i], sector, shown);
     }

@@ -3,3 +3,4 @@
 pub mod ending;
 pub mod judge;
 pub mod run;
+pub mod stop;

@@ -59,11 +59,12 @@ returns-then-not-is-digit c =
     no-number (c .args .s .now) (c .loop-i .inv .1 ∙ more (c .args .s .now) (c .loop-i .i) false (c .loop-i-test .taken) (c .if-not-is-digit .ensures tt))
 
 pub loop-i-again : need.loop-i-again
-loop-i-again c =
-    (c .loop-i .inv .0 ∙ at-drop-more (value (c .loop-i .n)) (c .args .s .now) (c .loop-i .i) 0 (c .loop-i-test .taken),
-    c .loop-i .inv .1 ∙ more (c .args .s .now) (c .loop-i .i) true (c .loop-i-test .taken) (c .if-not-is-digit .ensures tt),
-    let l = low (getD (c .args .s .now) (c .loop-i .i) 0) (c .if-not-is-digit .ensures tt) in
-    rw ten (omega arith))
+loop-i-again c = (
+  c .loop-i .inv .0 ∙ at-drop-more (value (c .loop-i .n)) (c .args .s .now) (c .loop-i .i) 0 (c .loop-i-test .taken),
+  c .loop-i .inv .1 ∙ more (c .args .s .now) (c .loop-i .i) true (c .loop-i-test .taken) (c .if-not-is-digit .ensures tt),
+  let l = low (getD (c .args .s .now) (c .loop-i .i) 0) (c .if-not-is-digit .ensures tt) in
+      rw ten (omega arith),
+)
 
 pub returns : need.returns
 returns c =

@@ -30,7 +30,8 @@ returns-in-Err g c =
     let h = c .in-Err .ensures tt in
     record {
       done = (c .loop-i-test .taken, (c .loop-i .disk, c .loop-i .inv .1, subst (λ (s : Step). g .D·Disk .does (c .loop-i .disk) (request s) (Err f) (c .ask .last .disk)) e (h .done)));
-      ran = ran-stopped _ m m′ ss i f (c .loop-i-test .taken) (c .loop-i .inv .0) (subst (λ (s : Step). Rule s m (Err f) m′) e (h .rule)) }
+      ran = ran-stopped _ m m′ ss i f (c .loop-i-test .taken) (c .loop-i .inv .0) (subst (λ (s : Step). Rule s m (Err f) m′) e (h .rule));
+    }
 
 pub loop-i-again : need.loop-i-again
 unfolding past
@@ -41,9 +42,10 @@ loop-i-again g c =
     let m = g .D·Disk .meaning (c .loop-i .disk) in
     let m′ = g .D·Disk .meaning (c .ask .last .disk) in
     let e = take-more ss i past (c .loop-i-test .taken) in
-    let h = c .in-Ok .ensures tt in
-    (subst (λ (l : List Step). Kept m₀ l m′) (sym e) (kept-more m₀ m m′ (take i ss) (c .loop-i .inv .0) (getD ss i past) (h .rule)),
-    subst (λ (l : List Step). Accepted (g .D·Disk .does) (c .args .disk .now) l (c .ask .last .disk)) (sym e) (more (getD ss i past) (c .loop-i .inv .1) (h .done)))
+    let h = c .in-Ok .ensures tt in (
+      subst (λ (l : List Step). Kept m₀ l m′) (sym e) (kept-more m₀ m m′ (take i ss) (c .loop-i .inv .0) (getD ss i past) (h .rule)),
+      subst (λ (l : List Step). Accepted (g .D·Disk .does) (c .args .disk .now) l (c .ask .last .disk)) (sym e) (more (getD ss i past) (c .loop-i .inv .1) (h .done)),
+    )
 
 pub returns : need.returns
 returns g c =
@@ -52,4 +54,5 @@ returns g c =
     let is : length ss ≡ i = omega arith in
     record {
       done = subst (λ (l : List Step). Accepted (g .D·Disk .does) (c .args .disk .now) l (c .loop-i .disk)) (take-all i ss (omega arith)) (c .loop-i .inv .1);
-      ran = ran-finished _ _ ss i is (c .loop-i .inv .0) }
+      ran = ran-finished _ _ ss i is (c .loop-i .inv .0);
+    }
