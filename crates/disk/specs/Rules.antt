@@ -49,14 +49,16 @@ pub record Calm (m : Meaning) (due : Type 0) (r : Answer) (m′ : Meaning) : Typ
   pub stays : m .calm ≡ true → m′ .calm ≡ true
   pub accepts : m .calm ≡ true → due → r ≡ Ok tt
 
--- SIZE and LIVE, which change nothing: they only look at the disk
+-- SIZE and LIVE, which change nothing
 
-pub record Sizes (m : Meaning) (r : ℕ) : Type 0 where
+pub record Sizes (m : Meaning) (r : ℕ) (m′ : Meaning) : Type 0 where
   pub is : r ≡ m .size
+  pub same : m′ ≡ m
   pub sound : Sound m
 
-pub record Lives (m : Meaning) (r : Bool) : Type 0 where
+pub record Lives (m : Meaning) (r : Bool) (m′ : Meaning) : Type 0 where
   pub is : r ≡ m .live
+  pub same : m′ ≡ m
   pub sound : Sound m
 
 -- GET into a buffer, which held old and now holds new

@@ -21,11 +21,11 @@ pub trait Disk {
 
     /// The number of sectors.
     fn size(&self) -> usize
-        ensures { λ r. ⌜ Sizes (meaning (now (self .entry))) r ⌝ };
+        ensures { λ r. ⌜ Sizes (meaning (now (self .entry))) r (meaning (now (self .exit))) ⌝ };
 
     /// Whether the disk is live.
     fn live(&self) -> bool
-        ensures { λ r. ⌜ Lives (meaning (now (self .entry))) r ⌝ };
+        ensures { λ r. ⌜ Lives (meaning (now (self .entry))) r (meaning (now (self .exit))) ⌝ };
 
     /// Fills `into` with what sector `n` shows.
     fn get(&mut self, n: usize, into: &mut [u8; 1024]) -> Result<(), DiskFault>

@@ -40,7 +40,7 @@ pub impl<D: Disk> Disk for Fuse<D> as FuseDisk {
     ghost does = { λ d q r e. FuseDoes (D·Disk .does) (D·Disk .meaning (d .below) .size) (d .state) (d .below) q r (e .state) (e .below) };
 
     fn size(&self) -> usize {
-        self.below.size()
+        self.below.size() // as below
     }
 
     fn live(&self) -> bool {

@@ -80,11 +80,11 @@ pub impl<D: Disk> Disk for Hold<D> as HoldDisk {
     ghost does = { λ d q r e. HoldDoes (D·Disk .does) (D·Disk .meaning (d .below)) (rows (d .table)) (d .below) q r (rows (e .table)) (e .below) };
 
     fn size(&self) -> usize {
-        self.below.size()
+        self.below.size() // as below
     }
 
     fn live(&self) -> bool {
-        self.below.live()
+        self.below.live() // as below
     }
 
     fn get(&mut self, n: usize, into: &mut [u8; 1024]) -> Result<(), DiskFault> {

@@ -1,3 +1,5 @@
+ghost use mathlib.Core.Path.{_≡_};
+ghost use Rattle.plan.specs.Messages.{messageOf};
 use std::fmt;
 
 /// Why a line is no line of a plan.
@@ -16,7 +18,9 @@ pub enum LineFault {
 
 impl LineFault {
     /// What to tell whoever wrote the line.
-    pub fn message(self) -> &'static str {
+    pub fn message(self) -> &'static str
+        ensures { λ r. ⌜ now r ≡ messageOf self ⌝ }
+    {
         match self {
             LineFault::Word => "SIZE, PUT or SETTLE is expected",
             LineFault::Fields => "a field is missing, or there is one too many",

@@ -75,7 +75,7 @@ impl Plan {
     pub fn size(&self) -> Option<usize>
         ensures { λ r. ⌜ r ≡ now (self .entry) .size ⌝ }
     {
-        self.size
+        self.size // none before SIZE
     }
 
     /// What is asked of the disk, in order.

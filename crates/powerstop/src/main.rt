@@ -4,11 +4,14 @@ mod pile;
 mod report;
 
 use pile::Pile;
-use pile::Tried;
 use pile::try_pile;
 use plan::fault::LineFaultDisplay;
 use plan::reader::Plan;
+use std::alloc::Global;
 use std::error::AnyError;
+use std::io::BufRead;
+use std::io::BufReader;
+use std::io::Stdin;
 
 /// The power stops so far, and how many of them left something that the plan does not allow.
 #[derive(Clone, Copy)]
@@ -17,14 +20,27 @@ struct Tally {
     wrong: usize,
 }
 
+/// One line of the input without its newline, or none at the end of the input.
+fn next_line(input: &mut BufReader<Stdin>, heap: Global) -> Result<Option<Vec<u8>>, AnyError> {
+    let mut line = Vec::new(heap);
+    if input.read_until(b'\n', &mut line)? == 0 {
+        return Ok(None);
+    }
+    if line.last() == Some(&b'\n') {
+        let _ = line.pop();
+    }
+    Ok(Some(line))
+}
+
 /// Reads the plan from standard input, and refuses it at its first bad line.
 fn read_plan(rt: &LibcRuntime) -> Result<Plan, AnyError> {
     let mut plan = Plan::new(rt.alloc());
-    let mut number = 0usize;
-    for line in rt.lines(rt.alloc()) {
-        number = number.saturating_add(1);
-        let line = line?;
-        if let Err(fault) = plan.read(line.as_bytes()) {
+    let mut input = BufReader::new(rt.stdin());
+    for number in 1..usize::MAX {
+        let Some(line) = next_line(&mut input, rt.alloc())? else {
+            break;
+        };
+        if let Err(fault) = plan.read(line.as_slice()) {
             let message = format!(rt.alloc(), "line {number}: {fault}")?;
             return Err(message.into());
         }
@@ -33,7 +49,13 @@ fn read_plan(rt: &LibcRuntime) -> Result<Plan, AnyError> {
 }
 
 /// Tries one pile with every number of puts that its fuse can let through before the plan runs to its end.
-fn try_all(rt: &LibcRuntime, pile: Pile, size: usize, plan: &Plan, tally: &mut Tally) -> Result<(), AnyError> {
+fn try_all(
+    rt: &LibcRuntime,
+    pile: Pile,
+    size: usize,
+    plan: &Plan,
+    tally: &mut Tally,
+) -> Result<(), AnyError> {
     for passes in 0..plan.steps().len().saturating_add(1) {
         let mut line = String::new(rt.alloc());
         let tried = try_pile(rt.alloc(), pile, passes, size, plan.steps(), &mut line)?;

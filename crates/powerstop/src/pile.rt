@@ -1,3 +1,6 @@
+ghost use mathlib.Core.Path.{_≡_};
+ghost use lib.ListN.{length, replicate};
+ghost use Rattle.powerstop.specs.Tries.{Sound, SoundFrom};
 use crate::report::show_ending;
 use crate::report::show_number;
 use crate::report::show_sectors;
@@ -9,6 +12,7 @@ use layers::fuse::FuseDisk;
 use layers::hold::Hold;
 use layers::hold::HoldDisk;
 use plan::step::Step;
+use std::alloc::AllocError;
 use std::alloc::Global;
 use std::error::AnyError;
 use trial::ending::Ending;
@@ -52,7 +56,14 @@ pub(crate) struct Tried {
 }
 
 /// Runs the plan on a disk up to a power stop, restarts, and adds to `line` where it stopped and what is left.
-fn try_disk<D: Disk>(heap: Global, disk: &mut D, steps: &[Step], line: &mut String) -> Result<Tried, AnyError> {
+fn try_disk<D: Disk>(
+    heap: Global,
+    disk: &mut D,
+    steps: &[Step],
+    line: &mut String,
+) -> Result<Tried, AnyError>
+    ensures { λ r. ⌜ SoundFrom (D·Disk .meaning (now (disk .entry))) r ⌝ }
+{
     let Ok(report) = power_stop(disk, steps) else {
         return Err("the disk is gone after the power stop".into());
     };
@@ -62,34 +73,49 @@ fn try_disk<D: Disk>(heap: Global, disk: &mut D, steps: &[Step], line: &mut Stri
         Ending::Finished => true,
         Ending::Stopped { .. } => false,
     };
-    Ok(Tried { finished, wrong: report.wrong })
+    Ok(Tried {
+        finished,
+        wrong: report.wrong,
+    })
 }
 
-fn try_under_hold<D: Disk + Drop>(heap: Global, below: D, steps: &[Step], line: &mut String) -> Result<Tried, AnyError> {
+fn try_under_hold<D: Disk + Drop>(
+    heap: Global,
+    below: D,
+    steps: &[Step],
+    line: &mut String,
+) -> Result<Tried, AnyError>
+    ensures { λ r. ⌜ SoundFrom (D·Disk .meaning below) r ⌝ }
+{
     let mut disk = Hold::new(below);
     try_disk(heap, &mut disk, steps, line)
 }
 
-fn try_under_fuse<D: Disk + Drop>(heap: Global, below: D, passes: usize, steps: &[Step], line: &mut String) -> Result<Tried, AnyError> {
+fn try_under_fuse<D: Disk + Drop>(
+    heap: Global,
+    below: D,
+    passes: usize,
+    steps: &[Step],
+    line: &mut String,
+) -> Result<Tried, AnyError>
+    ensures { λ r. ⌜ SoundFrom (D·Disk .meaning below) r ⌝ }
+{
     let mut disk = Fuse::new(below, passes);
     try_disk(heap, &mut disk, steps, line)
 }
 
-/// Tries a plan on a pile over a blank image of this size, and writes the line of the report.
-pub(crate) fn try_pile(heap: Global, pile: Pile, passes: usize, size: usize, steps: &[Step], line: &mut String) -> Result<Tried, AnyError> {
-    let Some(length) = size.checked_mul(1024) else {
-        return Err("the disk is too large".into());
-    };
-    let mut bytes = vec![in heap; 0u8; length]?;
-    line.push_str(pile.name())?;
-    line.push_str(",")?;
-    if pile.has_fuse() {
-        show_number(heap, passes, line)?;
-    } else {
-        line.push_str("-")?;
-    }
-    line.push_str(",")?;
-    let mut image = Image::new(&mut bytes);
+/// Tries a plan on a pile over an image of these bytes, which are to be zero.
+fn try_over(
+    heap: Global,
+    pile: Pile,
+    passes: usize,
+    bytes: &mut [u8],
+    steps: &[Step],
+    line: &mut String,
+) -> Result<Tried, AnyError>
+    ensures { λ r. ⌜ (now (bytes .entry) ≡ replicate (length (now (bytes .entry))) 0 → Sound r) ⌝ }
+{
+    let mut image = Image::new(bytes);
     match pile {
         Pile::Image => try_disk(heap, &mut image, steps, line),
         Pile::Hold => try_under_hold(heap, image, steps, line),
@@ -97,4 +123,35 @@ pub(crate) fn try_pile(heap: Global, pile: Pile, passes: usize, size: usize, ste
         Pile::HoldOverFuse => try_under_hold(heap, Fuse::new(image, passes), steps, line),
         Pile::FuseOverHold => try_under_fuse(heap, Hold::new(image), passes, steps, line),
     }
+}
+
+/// Adds the pile, and how many puts its fuse lets through, if it has one.
+fn show_pile(heap: Global, pile: Pile, passes: usize, line: &mut String) -> Result<(), AllocError> {
+    line.push_str(pile.name())?;
+    line.push_str(",")?;
+    if pile.has_fuse() {
+        show_number(heap, passes, line)?;
+    } else {
+        line.push_str("-")?;
+    }
+    line.push_str(",")
+}
+
+/// Tries a plan on a pile over a blank image of this size, and writes the line of the report.
+pub(crate) fn try_pile(
+    heap: Global,
+    pile: Pile,
+    passes: usize,
+    size: usize,
+    steps: &[Step],
+    line: &mut String,
+) -> Result<Tried, AnyError>
+    ensures { λ r. ⌜ Sound r ⌝ }
+{
+    let Some(length) = size.checked_mul(1024) else {
+        return Err("the disk is too large".into());
+    };
+    let mut bytes = vec![in heap; 0u8; length]?;
+    show_pile(heap, pile, passes, line)?;
+    try_over(heap, pile, passes, &mut bytes, steps, line)
 }

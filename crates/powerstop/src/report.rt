@@ -50,7 +50,12 @@ fn show_fault(heap: Global, fault: &DiskFault, line: &mut String) -> Result<(), 
 }
 
 /// Adds where a run stopped, and the answer that it got there: the plan's line 1 is its size, so step 0 is line 2.
-pub(crate) fn show_ending(heap: Global, ending: &Ending, steps: &[Step], line: &mut String) -> Result<(), AllocError> {
+pub(crate) fn show_ending(
+    heap: Global,
+    ending: &Ending,
+    steps: &[Step],
+    line: &mut String,
+) -> Result<(), AllocError> {
     match ending {
         Ending::Finished => line.push_str("end,ok"),
         Ending::Stopped { step, fault } => {
@@ -89,7 +94,12 @@ fn show_text(bytes: &[u8; 1024], line: &mut String) -> Result<(), AllocError> {
 }
 
 /// Adds what each sector shows that the plan names.
-pub(crate) fn show_sectors<D: Disk>(heap: Global, disk: &mut D, steps: &[Step], line: &mut String) -> Result<(), AnyError> {
+pub(crate) fn show_sectors<D: Disk>(
+    heap: Global,
+    disk: &mut D,
+    steps: &[Step],
+    line: &mut String,
+) -> Result<(), AnyError> {
     for k in 0..disk.size() {
         if is_named(steps, k) {
             let mut bytes = [0u8; 1024];
