@@ -13,9 +13,9 @@ pub record Clean (m : Meaning) : Type 0 where
   pub blank : Blank m
 
 -- no sector shows what the plan does not allow
-abbrev pub Sound : {E : Type 0} → Result Tried E → Type 0
-Sound (Ok t) = t .wrong ≡ 0
-Sound (Err e) = Unit {0}
+abbrev pub NothingWrong : {E : Type 0} → Result Tried E → Type 0
+NothingWrong (Ok t) = t .wrong ≡ 0
+NothingWrong (Err e) = Unit {0}
 
-abbrev pub SoundFrom : {E : Type 0} → Meaning → Result Tried E → Type 0
-SoundFrom m r = Clean m → Sound r
+abbrev pub NothingWrongFrom : {E : Type 0} → Meaning → Result Tried E → Type 0
+NothingWrongFrom m r = Clean m → NothingWrong r

@@ -1,6 +1,6 @@
 ghost use mathlib.Core.Path.{_≡_};
 ghost use lib.ListN.{length, replicate};
-ghost use Rattle.powerstop.specs.Tries.{Sound, SoundFrom};
+ghost use Rattle.powerstop.specs.Tries.{NothingWrong, NothingWrongFrom};
 use crate::report::show_ending;
 use crate::report::show_number;
 use crate::report::show_sectors;
@@ -62,7 +62,7 @@ fn try_disk<D: Disk>(
     steps: &[Step],
     line: &mut String,
 ) -> Result<Tried, AnyError>
-    ensures { λ r. ⌜ SoundFrom (D·Disk .meaning (now (disk .entry))) r ⌝ }
+    ensures { λ r. ⌜ NothingWrongFrom (D·Disk .meaning (now (disk .entry))) r ⌝ }
 {
     let Ok(report) = power_stop(disk, steps) else {
         return Err("the disk is gone after the power stop".into());
@@ -85,7 +85,7 @@ fn try_under_hold<D: Disk + Drop>(
     steps: &[Step],
     line: &mut String,
 ) -> Result<Tried, AnyError>
-    ensures { λ r. ⌜ SoundFrom (D·Disk .meaning below) r ⌝ }
+    ensures { λ r. ⌜ NothingWrongFrom (D·Disk .meaning below) r ⌝ }
 {
     let mut disk = Hold::new(below);
     try_disk(heap, &mut disk, steps, line)
@@ -98,7 +98,7 @@ fn try_under_fuse<D: Disk + Drop>(
     steps: &[Step],
     line: &mut String,
 ) -> Result<Tried, AnyError>
-    ensures { λ r. ⌜ SoundFrom (D·Disk .meaning below) r ⌝ }
+    ensures { λ r. ⌜ NothingWrongFrom (D·Disk .meaning below) r ⌝ }
 {
     let mut disk = Fuse::new(below, passes);
     try_disk(heap, &mut disk, steps, line)
@@ -113,7 +113,7 @@ fn try_over(
     steps: &[Step],
     line: &mut String,
 ) -> Result<Tried, AnyError>
-    ensures { λ r. ⌜ (now (bytes .entry) ≡ replicate (length (now (bytes .entry))) 0 → Sound r) ⌝ }
+    ensures { λ r. ⌜ (now (bytes .entry) ≡ replicate (length (now (bytes .entry))) 0 → NothingWrong r) ⌝ }
 {
     let mut image = Image::new(bytes);
     match pile {
@@ -146,7 +146,7 @@ pub(crate) fn try_pile(
     steps: &[Step],
     line: &mut String,
 ) -> Result<Tried, AnyError>
-    ensures { λ r. ⌜ Sound r ⌝ }
+    ensures { λ r. ⌜ NothingWrong r ⌝ }
 {
     let Some(length) = size.checked_mul(1024) else {
         return Err("the disk is too large".into());
