@@ -1,0 +1,5 @@
+pub mod Entries
+pub mod Headers
+pub mod Pages
+pub mod Tables
+pub mod Words

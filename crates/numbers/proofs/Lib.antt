@@ -1,0 +1,4 @@
+pub mod Linking
+pub mod Naming
+pub mod Ordered
+pub mod Sizes

@@ -1,0 +1,4 @@
+pub mod Lengths
+pub mod Names
+pub mod Order
+pub mod Sectors
