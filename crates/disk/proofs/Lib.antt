@@ -1,3 +1,4 @@
 pub mod Bytes
 pub mod Refusals
 pub mod Images
+pub mod Follows

@@ -15,7 +15,7 @@ use Rattle.disk.specs.Rules.{Gets, Puts, Settles}
 module _ (m : Meaning) (sound : Sound m) {l : Layer} {n : ℕ} where
   outside-get : (old : Contents) → m .size ≤ n → Gets m n old (Err (outside l n)) m old
   outside-get old h = record {
-    answer = ((h, refl, refl), refl);
+    answer = record { why = record { beyond = h; sector = refl; same = refl }; untouched = refl };
     size = refl;
     shows = λ k lt. refl;
     fewer = λ k x lt i. i;
@@ -25,7 +25,7 @@ module _ (m : Meaning) (sound : Sound m) {l : Layer} {n : ℕ} where
 
   outside-put : (bytes : Contents) → m .size ≤ n → Puts m n bytes (Err (outside l n)) m
   outside-put bytes h = record {
-    answer = (h, refl, refl);
+    answer = record { beyond = h; sector = refl; same = refl };
     size = refl;
     others = λ k lt ne. refl;
     adds = λ k x lt i. inl i;
@@ -35,7 +35,7 @@ module _ (m : Meaning) (sound : Sound m) {l : Layer} {n : ℕ} where
 
   gone-get : m .live ≡ false → (old : Contents) → n < m .size → Gets m n old (Err (gone l n)) m old
   gone-get dead old h = record {
-    answer = ((h, dead), refl);
+    answer = record { why = record { inside = h; lost = dead }; untouched = refl };
     size = refl;
     shows = λ k lt. refl;
     fewer = λ k x lt i. i;
@@ -45,7 +45,7 @@ module _ (m : Meaning) (sound : Sound m) {l : Layer} {n : ℕ} where
 
   gone-put : m .live ≡ false → (bytes : Contents) → n < m .size → Puts m n bytes (Err (gone l n)) m
   gone-put dead bytes h = record {
-    answer = (h, dead);
+    answer = record { inside = h; lost = dead };
     size = refl;
     others = λ k lt ne. refl;
     adds = λ k x lt i. inl i;

@@ -33,11 +33,21 @@ Fewer m m′ = (k : ℕ) (x : Contents) → k < m .size → In x (m′ .may k) �
 abbrev pub Settled : Meaning → Type 0
 Settled m = (k : ℕ) (x : Contents) → k < m .size → In x (m .may k) → x ≡ m .shown k
 
--- what a refusal of a get or put says, by its cause:
--- outside, there is no sector n, live or not, and nothing changes; gone, there is one, and the disk is no longer live
+-- a get or put that is refused as outside: there is no sector n, live or not; the fault names n; nothing changes
+pub record IsOutside (m : Meaning) (n : ℕ) (f : DiskFault) (m′ : Meaning) : Type 0 where
+  pub beyond : m .size ≤ n
+  pub sector : f .sector ≡ n
+  pub same : m′ ≡ m
+
+-- a get or put that is refused as gone: there is a sector n, and the disk is no longer live
+pub record IsGone (m : Meaning) (n : ℕ) (m′ : Meaning) : Type 0 where
+  pub inside : n < m .size
+  pub lost : m′ .live ≡ false
+
+-- what a refusal of a get or put says, by its cause
 abbrev pub Refuses : Cause → Meaning → ℕ → DiskFault → Meaning → Type 0
-Refuses Outside m n f m′ = (m .size ≤ n) × (f .sector ≡ n) × (m′ ≡ m)
-Refuses Gone m n f m′ = (n < m .size) × (m′ .live ≡ false)
+Refuses Outside m n f m′ = IsOutside m n f m′
+Refuses Gone m n f m′ = IsGone m n m′
 
 -- what a refusal of a settle or restart says, by its cause: it is never outside; gone, the disk is no longer live
 abbrev pub Stops : Cause → Meaning → Type 0
@@ -69,9 +79,13 @@ pub record Got (m : Meaning) (n : ℕ) (m′ : Meaning) (new : Contents) : Type 
   pub live : m′ .live ≡ true
   pub filled : new ≡ m .shown n
 
+pub record NotGot (m : Meaning) (n : ℕ) (old : Contents) (f : DiskFault) (m′ : Meaning) (new : Contents) : Type 0 where
+  pub why : Refuses (f .cause) m n f m′
+  pub untouched : new ≡ old
+
 abbrev pub GetAnswers : Meaning → ℕ → Contents → Answer → Meaning → Contents → Type 0
 GetAnswers m n old (Ok _) m′ new = Got m n m′ new
-GetAnswers m n old (Err f) m′ new = Refuses (f .cause) m n f m′ × (new ≡ old)
+GetAnswers m n old (Err f) m′ new = NotGot m n old f m′ new
 
 pub record Gets (m : Meaning) (n : ℕ) (old : Contents) (r : Answer) (m′ : Meaning) (new : Contents) : Type 0 where
   pub answer : GetAnswers m n old r m′ new
@@ -105,13 +119,13 @@ pub record Puts (m : Meaning) (n : ℕ) (bytes : Contents) (r : Answer) (m′ : 
 
 -- SETTLE
 
-pub record Rested (m m′ : Meaning) : Type 0 where
+pub record IsSettled (m m′ : Meaning) : Type 0 where
   pub was : m .live ≡ true
   pub live : m′ .live ≡ true
   pub settled : Settled m′
 
 abbrev pub SettleAnswers : Meaning → Answer → Meaning → Type 0
-SettleAnswers m (Ok _) m′ = Rested m m′
+SettleAnswers m (Ok _) m′ = IsSettled m m′
 SettleAnswers m (Err f) m′ = Stops (f .cause) m′
 
 pub record Settles (m : Meaning) (r : Answer) (m′ : Meaning) : Type 0 where
@@ -124,14 +138,14 @@ pub record Settles (m : Meaning) (r : Answer) (m′ : Meaning) : Type 0 where
 
 -- RESTART
 
-pub record Revived (m m′ : Meaning) : Type 0 where
+pub record IsRestarted (m m′ : Meaning) : Type 0 where
   pub live : m′ .live ≡ true
   -- a member of each set is what is shown, and the whole set
   pub picks : (k : ℕ) → k < m .size → In (m′ .shown k) (m .may k)
   pub settled : Settled m′
 
 abbrev pub RestartAnswers : Meaning → Answer → Meaning → Type 0
-RestartAnswers m (Ok _) m′ = Revived m m′
+RestartAnswers m (Ok _) m′ = IsRestarted m m′
 RestartAnswers m (Err f) m′ = Stops (f .cause) m′
 
 pub record Restarts (m : Meaning) (r : Answer) (m′ : Meaning) : Type 0 where

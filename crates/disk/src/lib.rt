@@ -6,6 +6,7 @@ ghost use Rattle.disk.specs.Rules.Request.{getting, putting, settling, restart
 
 pub mod fault;
 pub mod image;
+pub mod laws;
 
 use fault::DiskFault;
 

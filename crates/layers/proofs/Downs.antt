@@ -90,30 +90,30 @@ module _ (D : Type 0) (does : D → Request → Answer → D → Type 0) where
     pub reaches-beyond : (f : DiskFault) → m .size ≤ n → f ≡ outside isHold n → Reaches does m n inside s d (Err f) s d
     reaches-beyond f ge is = record {
       beyond = λ _. record { answer = ap Err is; memory = refl; below = refl };
-      dead = λ lt _. absurd (omega arith);
-      alive = λ lt _. absurd (omega arith);
+      notLive = λ lt _. absurd (omega arith);
+      isLive = λ lt _. absurd (omega arith);
     }
 
     pub reaches-dead : (f : DiskFault) → n < m .size → m .live ≡ false → f ≡ gone isHold n → Reaches does m n inside s d (Err f) s d
     reaches-dead f lt off is = record {
       beyond = λ ge. absurd (omega arith);
-      dead = λ _ _. record { answer = ap Err is; memory = refl; below = refl };
-      alive = λ _ l. absurd (both-ways (m .live) off l);
+      notLive = λ _ _. record { answer = ap Err is; memory = refl; below = refl };
+      isLive = λ _ l. absurd (both-ways (m .live) off l);
     }
 
     pub reaches-alive : (r : Answer) (s′ : List Kept) (d′ : D) → n < m .size → m .live ≡ true → inside → Reaches does m n inside s d r s′ d′
     reaches-alive r s′ d′ lt l h = record {
       beyond = λ ge. absurd (omega arith);
-      dead = λ _ off. absurd (both-ways (m .live) off l);
-      alive = λ _ _. h;
+      notLive = λ _ off. absurd (both-ways (m .live) off l);
+      isLive = λ _ _. h;
     }
 
   module _ (m : Meaning) (s : List Kept) (d : D) where
     pub settling-dead : (f : DiskFault) → m .live ≡ false → f ≡ gone isHold 0 → Settling does m s d (Err f) s d
     settling-dead f off is = record {
-      dead = λ _. record { answer = ap Err is; memory = refl; below = refl };
-      alive = λ l. absurd (both-ways (m .live) off l);
+      notLive = λ _. record { answer = ap Err is; memory = refl; below = refl };
+      isLive = λ l. absurd (both-ways (m .live) off l);
     }
 
     pub settling-alive : (r : Answer) (s′ : List Kept) (d′ : D) → m .live ≡ true → Empties does s d r s′ d′ → Settling does m s d r s′ d′
-    settling-alive r s′ d′ l h = record { dead = λ off. absurd (both-ways (m .live) off l); alive = λ _. h }
+    settling-alive r s′ d′ l h = record { notLive = λ off. absurd (both-ways (m .live) off l); isLive = λ _. h }

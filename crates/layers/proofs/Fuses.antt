@@ -17,8 +17,8 @@ use Rattle.layers.specs.Fusing.{fused, FuseDoes}
 
 module _ (m m′ : Meaning) (n : ℕ) (x : Contents) (j k : ℕ) where
   refuses : (c : Cause) (f : DiskFault) → Refuses c m n f m′ → Refuses c (fused (Counting j) m) n f (fused (Counting k) m′)
-  refuses Outside f h = (h .0, h .1, ap (fused (Counting k)) (h .2))
-  refuses Gone f h = h
+  refuses Outside f h = record { beyond = h .beyond; sector = h .sector; same = ap (fused (Counting k)) (h .same) }
+  refuses Gone f h = record { inside = h .inside; lost = h .lost }
 
   answers : (r : Answer) → PutAnswers m n x r m′ → PutAnswers (fused (Counting j) m) n x r (fused (Counting k) m′)
   answers (Ok u) h = record { inside = h .inside; was = h .was; live = h .live; shown = h .shown }

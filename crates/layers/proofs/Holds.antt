@@ -89,8 +89,8 @@ module _ (f g : Keeper) (m m′ : Meaning) (s : ℕ) (x : Contents)
 
   let-go : (fault : DiskFault) → m .live ≡ true → Puts m s x (Err fault) m′ → Refuses Outside m s fault m′ → Spills (held f m) (Ok tt) (held g m′)
   let-go fault l p h =
-      let beyond = h .0 in
-      let is = h .2 in
+      let beyond = h .beyond in
+      let is = h .same in
       record {
         answer = (l, ap (λ (n : Meaning). n .live) is ∙ l);
         size = p .size;
@@ -109,7 +109,7 @@ module _ (f : Keeper) (m m′ : Meaning) (s : ℕ) (x : Contents) (has : f s ≡
   spills-gone fault is p =
       let h = subst (λ c. Refuses c m s fault m′) is (p .answer) in
       record {
-        answer = subst (λ c. Stops c (held f m′)) (sym is) (h .1);
+        answer = subst (λ c. Stops c (held f m′)) (sym is) (h .lost);
         size = p .size;
         shows = λ k lt.
             ⊎-elim
@@ -121,7 +121,7 @@ module _ (f : Keeper) (m m′ : Meaning) (s : ℕ) (x : Contents) (has : f s ≡
             (λ j. ⊎-elim (in-below (f k) y (m .may k)) (λ z. in-kept (f k) y (m .may k) (ap f (z .0) ∙ (has ∙ ap Some (sym (z .1))))) (p .adds k y lt j))
             (in-kept (f k) y (m .may k))
             (in-cases (f k) y (m′ .may k) i);
-        calm = record { stays = p .calm .stays; accepts = λ c l. p .calm .accepts c (l, h .0) };
+        calm = record { stays = p .calm .stays; accepts = λ c l. p .calm .accepts c (l, h .inside) };
         sound = sound-held f m′ w (p .sound);
       }
 
@@ -196,7 +196,7 @@ then-put a b d n x s p =
 
 no-put-by : (c : Cause) (a b : Meaning) (n : ℕ) (fault : DiskFault) → n < a .size → Stops c b → Refuses c a n fault b
 no-put-by Outside a b n fault lt h = absurd h
-no-put-by Gone a b n fault lt h = (lt, h)
+no-put-by Gone a b n fault lt h = record { inside = lt; lost = h }
 
 no-put : (a b : Meaning) (n : ℕ) (x : Contents) (fault : DiskFault) → n < a .size → Spills a (Err fault) b → Puts a n x (Err fault) b
 no-put a b n x fault lt s = record {
@@ -222,12 +222,12 @@ gets-kept f m n old new s w lt l e = record {
 }
 
 refused-below : (f : Keeper) (m m′ : Meaning) (n : ℕ) (fault : DiskFault) (c : Cause) → Refuses c m n fault m′ → Refuses c (held f m) n fault (held f m′)
-refused-below f m m′ n fault Outside h = (h .0, h .1, ap (held f) (h .2))
-refused-below f m m′ n fault Gone h = h
+refused-below f m m′ n fault Outside h = record { beyond = h .beyond; sector = h .sector; same = ap (held f) (h .same) }
+refused-below f m m′ n fault Gone h = record { inside = h .inside; lost = h .lost }
 
 answer-below : (f : Keeper) (m m′ : Meaning) (n : ℕ) (old new : Contents) (r : Answer) → f n ≡ None → GetAnswers m n old r m′ new → GetAnswers (held f m) n old r (held f m′) new
 answer-below f m m′ n old new (Ok _) e h = record { inside = h .inside; was = h .was; live = h .live; filled = h .filled ∙ sym (ap (λ o. kept-or o (m .shown n)) e) }
-answer-below f m m′ n old new (Err fault) e h = (refused-below f m m′ n fault (fault .cause) (h .0), h .1)
+answer-below f m m′ n old new (Err fault) e h = record { why = refused-below f m m′ n fault (fault .cause) (h .why); untouched = h .untouched }
 
 pub gets-below : (f : Keeper) (m m′ : Meaning) (n : ℕ) (old mid new : Contents) (r : Answer) → AllWhole f → f n ≡ None → mid ≡ old → Gets m n mid r m′ new →
     Gets (held f m) n old r (held f m′) new

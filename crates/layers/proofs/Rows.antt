@@ -201,6 +201,22 @@ module _ (xs : List Kept) (c : ℕ) (le : c ≤ length xs) where
         let a = from-tidy _ (ap tidy (sym (split r i lr)) ∙ t) in
         ap tidy e ∙ to-tidy _ (apart-swapped (take i r) (drop (suc i) r) (getD r i blank) v (ev ∙ sym (p .here lr)) full a)
 
+    pub count-in : i < c → length (take c (set xs i v)) ≡ cond (isSome (at (take c xs) n)) (length (take c xs)) (length (take c xs) + 1)
+    count-in lt =
+        let e = ap isSome (copied n i p lt) in
+        let l = length-take-le c (set xs i v) (simp length-set le) in
+        let len = length-take-le c xs le in
+        (l ∙ sym len) ∙ sym (ap (λ b. cond b (length (take c xs)) (length (take c xs) + 1)) e)
+
+    pub count-end : i ≡ c → c < length xs → length (take (i + 1) (set xs i v)) ≡ cond (isSome (at (take c xs) n)) (length (take c xs)) (length (take c xs) + 1)
+    count-end is lt =
+        let e = ap isSome (missing n i p (omega arith)) in
+        let le′ : i + 1 ≤ length xs = omega arith in
+        let l = length-take-le (i + 1) (set xs i v) (simp length-set le′) in
+        let len = length-take-le c xs le in
+        let same : i + 1 ≡ length (take c xs) + 1 = omega arith in
+        (l ∙ same) ∙ sym (ap (λ b. cond b (length (take c xs)) (length (take c xs) + 1)) e)
+
     pub kept-end : i ≡ c → c < length xs → (k : ℕ) → at (take (i + 1) (set xs i v)) k ≡ cond (eqb n k) (Some (v .bytes)) (at (take c xs) k)
     kept-end is lt k =
         let m = missing n i p (omega arith) in
@@ -224,6 +240,7 @@ module _ (s : List Kept) (y : Kept) (t : tidy s ≡ true) (last : s ≡ take (le
   without-last : Without s (y .sector) (take (length s - 1) s)
   without-last = record {
     gone = popped .1;
+    count = sym (ap length last ∙ length-append (take (length s - 1) s) (y ∷ []));
     others = λ k ne. sym (ap (λ l. at l k) last ∙ (passed (take (length s - 1) s) [] y k (λ e. ne (sym e)) ∙ ap (λ l. at l k) (append-nil (take (length s - 1) s))));
   }
 

@@ -66,7 +66,7 @@ module _ {D : Type 0} (does : D → Request → Answer → D → Type 0) where
     pub asked : does d (putting (row .sector) (row .bytes)) told d′
     pub follows : Follows told row s r s′
 
-  -- some kept sectors are put down, one after the other, all of them accepted
+  -- some kept sectors are put down, one after the other, and none of them is gone
   pub data Downs : List Kept → D → List Kept → D → Type 0 where
     none : {s : List Kept} {d : D} → Downs s d s d
     more : {s s₁ s′ : List Kept} {d d₁ d′ : D} → Downs s d s₁ d₁ → Down s₁ d₁ (Ok tt) s′ d′ → Downs s d s′ d′
@@ -94,12 +94,12 @@ module _ {D : Type 0} (does : D → Request → Answer → D → Type 0) where
     -- a get or put: past the last sector, or not live, the hold answers by itself
     pub record Reaches (n : ℕ) (inside : Type 0) (s : List Kept) (d : D) (r : Answer) (s′ : List Kept) (d′ : D) : Type 0 where
       pub beyond : m .size ≤ n → Itself (outside isHold n) s d r s′ d′
-      pub dead : n < m .size → m .live ≡ false → Itself (gone isHold n) s d r s′ d′
-      pub alive : n < m .size → m .live ≡ true → inside
+      pub notLive : n < m .size → m .live ≡ false → Itself (gone isHold n) s d r s′ d′
+      pub isLive : n < m .size → m .live ≡ true → inside
 
     pub record Settling (s : List Kept) (d : D) (r : Answer) (s′ : List Kept) (d′ : D) : Type 0 where
-      pub dead : m .live ≡ false → Itself (gone isHold 0) s d r s′ d′
-      pub alive : m .live ≡ true → Empties s d r s′ d′
+      pub notLive : m .live ≡ false → Itself (gone isHold 0) s d r s′ d′
+      pub isLive : m .live ≡ true → Empties s d r s′ d′
 
     abbrev pub HoldDoes : List Kept → D → Request → Answer → List Kept → D → Type 0
     HoldDoes s d (getting n) r s′ d′ = Reaches n (Reads (at s n) n s d r s′ d′) s d r s′ d′

@@ -38,14 +38,16 @@ abbrev pub Copied : Option Contents → Contents → Bool → Contents → Type 
 Copied (Some c) old r new = (r ≡ true) × (new ≡ c)
 Copied None old r new = (r ≡ false) × (new ≡ old)
 
--- now sector n is kept as x, and all others as they were
-abbrev pub With : List Kept → ℕ → Contents → List Kept → Type 0
-With s n x s′ = (k : ℕ) → at s′ k ≡ cond (eqb n k) (Some x) (at s k)
+-- now sector n is kept as x, and all others as they were; that is one row more, unless it was kept before
+pub record With (s : List Kept) (n : ℕ) (x : Contents) (s′ : List Kept) : Type 0 where
+  pub kept : (k : ℕ) → at s′ k ≡ cond (eqb n k) (Some x) (at s k)
+  pub count : length s′ ≡ cond (isSome (at s n)) (length s) (length s + 1)
 
--- now sector n is not kept, and all others are as they were
+-- now sector n is not kept, and all others are as they were; that is one row fewer
 pub record Without (s : List Kept) (n : ℕ) (s′ : List Kept) : Type 0 where
   pub gone : at s′ n ≡ None
   pub others : (k : ℕ) → (k ≡ n → ⊥) → at s′ k ≡ at s k
+  pub count : length s′ + 1 ≡ length s
 
 -- sector n is kept as x; or all 16 rows are taken by others, and stay
 abbrev pub Kept-or-full : List Kept → ℕ → Contents → Bool → List Kept → Type 0

@@ -2,10 +2,10 @@
 use mathlib.Core.Path.{_≡_}
 use mathlib.Core.List.{List, [], _∷_, _++_}
 use mathlib.Core.Bool.{cond, _&&_}
-use Prim.Native.Nat.{ℕ}
+use Prim.Native.Nat.{ℕ, _≤_}
 use lib.Dec.{leb, ltb}
 use lib.ListN.{length, drop, replicate}
-use Rattle.std.specs.Of.Vec.{vec-items}
+use Rattle.std.specs.Of.Vec.{vec-items, vec-len, vec-cap}
 use Rattle.std.specs.declared.option.Option.{Option}
 use Rattle.std.specs.declared.option.Option.the-variants.{Some, None}
 use Rattle.std.specs.declared.result.Result.{Result}
@@ -43,10 +43,10 @@ took (Some m) (put n t) = cond (ltb n m) (cond (leb (length t) 1024 && printable
 took (Some m) settle = stepped Settle
 took (Some m) (refused f) = turned f
 
--- the answer, by whether there is memory for one step more
+-- one step more, or a refusal for want of memory: the steps fill all the memory that was got for them
 abbrev pub Adds : Plan → Step → Result Unit LineFault → Plan → Type 0
 Adds p s (Ok _) p′ = (p′ .size ≡ p .size) × (vec-items (p′ .steps) ≡ vec-items (p .steps) ++ (s ∷ []))
-Adds p s (Err f) p′ = (f ≡ fault.Memory) × (p′ .size ≡ p .size) × (vec-items (p′ .steps) ≡ vec-items (p .steps))
+Adds p s (Err f) p′ = (f ≡ fault.Memory) × (vec-cap (p .steps) ≤ vec-len (p .steps)) × (p′ .size ≡ p .size) × (vec-items (p′ .steps) ≡ vec-items (p .steps))
 
 -- a plan p with a line that does this answers r and is p′
 abbrev pub Reads : Took → Plan → Result Unit LineFault → Plan → Type 0

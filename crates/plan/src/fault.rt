@@ -1,6 +1,5 @@
 ghost use mathlib.Core.Path.{_≡_};
 ghost use Rattle.plan.specs.Messages.{messageOf};
-use std::fmt;
 
 /// Why a line is no line of a plan.
 #[derive(Clone, Copy, PartialEq, Eq, Debug)]
@@ -32,11 +31,5 @@ impl LineFault {
             LineFault::Text => "a text has at most 1024 bytes, from space to tilde",
             LineFault::Memory => "there is no memory for the plan",
         }
-    }
-}
-
-pub impl fmt::Display for LineFault as LineFaultDisplay {
-    fn fmt<W: fmt::Write>(&self, f: &mut fmt::Formatter<W>) -> fmt::Result {
-        f.write_str(self.message())
     }
 }

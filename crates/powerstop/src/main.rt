@@ -5,7 +5,6 @@ mod report;
 
 use pile::Pile;
 use pile::try_pile;
-use plan::fault::LineFaultDisplay;
 use plan::reader::Plan;
 use std::alloc::Global;
 use std::error::AnyError;
@@ -41,8 +40,9 @@ fn read_plan(rt: &LibcRuntime) -> Result<Plan, AnyError> {
             break;
         };
         if let Err(fault) = plan.read(line.as_slice()) {
-            let message = format!(rt.alloc(), "line {number}: {fault}")?;
-            return Err(message.into());
+            let message = fault.message();
+            let text = format!(rt.alloc(), "line {number}: {message}")?;
+            return Err(text.into());
         }
     }
     Ok(plan)
@@ -58,13 +58,13 @@ fn try_all(
 ) -> Result<(), AnyError> {
     for passes in 0..plan.steps().len().saturating_add(1) {
         let mut line = String::new(rt.alloc());
-        let tried = try_pile(rt.alloc(), pile, passes, size, plan.steps(), &mut line)?;
+        let report = try_pile(rt.alloc(), pile, passes, size, plan.steps(), &mut line)?;
         println!(rt, "{line}")?;
         tally.stops = tally.stops.saturating_add(1);
-        if tried.wrong > 0 {
+        if report.wrong > 0 {
             tally.wrong = tally.wrong.saturating_add(1);
         }
-        if tried.finished {
+        if report.ending.is_finished() {
             break;
         }
     }

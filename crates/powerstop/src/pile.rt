@@ -1,6 +1,6 @@
 ghost use mathlib.Core.Path.{_≡_};
 ghost use lib.ListN.{length, replicate};
-ghost use Rattle.powerstop.specs.Tries.{NothingWrong, NothingWrongFrom};
+ghost use Rattle.powerstop.specs.Tries.{Truthful, NothingWrong, NothingWrongFrom};
 use crate::report::show_ending;
 use crate::report::show_number;
 use crate::report::show_sectors;
@@ -15,7 +15,7 @@ use plan::step::Step;
 use std::alloc::AllocError;
 use std::alloc::Global;
 use std::error::AnyError;
-use trial::ending::Ending;
+use trial::stop::Report;
 use trial::stop::power_stop;
 
 /// The piles that a plan is tried on, the layer that is asked named first.
@@ -48,35 +48,22 @@ impl Pile {
     }
 }
 
-/// Whether a plan ran to its end, and how many sectors were left with something that it does not allow.
-#[derive(Clone, Copy)]
-pub(crate) struct Tried {
-    pub finished: bool,
-    pub wrong: usize,
-}
-
 /// Runs the plan on a disk up to a power stop, restarts, and adds to `line` where it stopped and what is left.
 fn try_disk<D: Disk>(
     heap: Global,
     disk: &mut D,
     steps: &[Step],
     line: &mut String,
-) -> Result<Tried, AnyError>
-    ensures { λ r. ⌜ NothingWrongFrom (D·Disk .meaning (now (disk .entry))) r ⌝ }
+) -> Result<Report, AnyError>
+    ensures ran { λ r. ⌜ Truthful (D·Disk .meaning) (D·Disk .does) (now (disk .entry)) (now (steps .entry)) r ⌝ }
+    ensures clean { λ r. ⌜ NothingWrongFrom (D·Disk .meaning (now (disk .entry))) r ⌝ }
 {
     let Ok(report) = power_stop(disk, steps) else {
         return Err("the disk is gone after the power stop".into());
     };
     show_ending(heap, &report.ending, steps, line)?;
     show_sectors(heap, disk, steps, line)?;
-    let finished = match report.ending {
-        Ending::Finished => true,
-        Ending::Stopped { .. } => false,
-    };
-    Ok(Tried {
-        finished,
-        wrong: report.wrong,
-    })
+    Ok(report)
 }
 
 fn try_under_hold<D: Disk + Drop>(
@@ -84,7 +71,7 @@ fn try_under_hold<D: Disk + Drop>(
     below: D,
     steps: &[Step],
     line: &mut String,
-) -> Result<Tried, AnyError>
+) -> Result<Report, AnyError>
     ensures { λ r. ⌜ NothingWrongFrom (D·Disk .meaning below) r ⌝ }
 {
     let mut disk = Hold::new(below);
@@ -97,7 +84,7 @@ fn try_under_fuse<D: Disk + Drop>(
     passes: usize,
     steps: &[Step],
     line: &mut String,
-) -> Result<Tried, AnyError>
+) -> Result<Report, AnyError>
     ensures { λ r. ⌜ NothingWrongFrom (D·Disk .meaning below) r ⌝ }
 {
     let mut disk = Fuse::new(below, passes);
@@ -112,7 +99,7 @@ fn try_over(
     bytes: &mut [u8],
     steps: &[Step],
     line: &mut String,
-) -> Result<Tried, AnyError>
+) -> Result<Report, AnyError>
     ensures { λ r. ⌜ (now (bytes .entry) ≡ replicate (length (now (bytes .entry))) 0 → NothingWrong r) ⌝ }
 {
     let mut image = Image::new(bytes);
@@ -145,7 +132,7 @@ pub(crate) fn try_pile(
     size: usize,
     steps: &[Step],
     line: &mut String,
-) -> Result<Tried, AnyError>
+) -> Result<Report, AnyError>
     ensures { λ r. ⌜ NothingWrong r ⌝ }
 {
     let Some(length) = size.checked_mul(1024) else {

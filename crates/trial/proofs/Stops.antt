@@ -2,6 +2,7 @@
 use mathlib.Core.Path.{_≡_, refl, sym, ap, _∙_, subst}
 use mathlib.Core.List.{List, [], _∷_}
 use mathlib.Core.Bool.{Bool, true, false, cond}
+use mathlib.Core.Logic.{inl, inr}
 use Prim.Native.Nat.{ℕ, zero, suc, _+_, _≤_, _<_}
 use native.Mathlib.Omega.{arith}
 use lib.ListN.{take}
@@ -17,10 +18,11 @@ use Rattle.disk.specs.Rules.Request.{restarting}
 use Rattle.plan.specs.Plans.{blank}
 use Rattle.plan.specs.declared.step.Step.{Step}
 use Rattle.trial.specs.declared.ending.Ending.{Ending}
+use Rattle.trial.specs.declared.stop.Report.{Report}
 use Rattle.trial.specs.Endings.{reach}
 use Rattle.trial.specs.Leaves.{leaves, among, failing}
 use Rattle.trial.specs.Runs.{Ended, Fresh, Ran}
-use Rattle.trial.specs.Stops.{wrong, Looks, Counts, Blank, Survived, Stopped}
+use Rattle.trial.specs.Stops.{wrong, Looks, Counts, Blank, StopAnswers}
 use Rattle.trial.proofs.Judges.{in-among, failing-none, failing-more}
 
 -- whether sector k shows what is allowed
@@ -84,6 +86,7 @@ module _ (m₀ m m′ : Meaning) (ss : List Step) (k w : ℕ) (lt : k < m₀ .si
     shows = λ j l. p .shows j (inside l) ∙ h .shows j l;
     fewer = λ j x l i. h .fewer j x l (p .fewer j x (inside l) i);
     accepts = λ c l. p .accepts (h .calm c) (h .live l) (inside lt);
+    live = λ _ ok. absurd (both-ways false refl ok);
     sound = p .sound;
   }
 
@@ -99,35 +102,66 @@ counts-all m₀ m ss k w e h = record {
   shows = h .shows;
   fewer = h .fewer;
   accepts = λ _ _. refl;
+  live = λ l _. h .live l;
   sound = h .sound;
 }
 
 module _ (D : Type 0) (meaning : D → Meaning) (does : D → Request → Answer → D → Type 0) (d d₁ d₂ d′ : D) (ss done : List Step) (e : Ending) (w : ℕ) where
-  pub survived : Ended does ss d e d₁ → Ran (meaning d) ss e (meaning d₁) → does d₁ restarting (Ok tt) d₂ → Restarts (meaning d₁) (Ok tt) (meaning d₂) →
-      done ≡ take (reach e ss) ss → Counts (meaning d₂) done (Ok w) (meaning d′) → Stopped meaning does d ss (Ok (record { ending = e; wrong = w })) d′
-  survived ended ran asked rule is counts =
+  pub reported : Ended does ss d e d₁ → Ran (meaning d) ss e (meaning d₁) → does d₁ restarting (Ok tt) d₂ → Restarts (meaning d₁) (Ok tt) (meaning d₂) →
+      done ≡ take (reach e ss) ss → Counts (meaning d₂) done (Ok w) (meaning d′) → StopAnswers meaning does d ss (Ok (record { ending = e; wrong = w })) d′
+  reported ended ran asked rule is counts =
       let size₂ = rule .size ∙ ran .size in
       record {
-        accepts = λ _. refl;
-        answer = record {
-          stopped = d₁;
-          started = d₂;
-          ran = ended;
-          restarted = asked;
-          shows = counts .shows;
-          size = counts .size ∙ size₂;
-          counts =
-              counts .answer
-              ∙ (ap (wrong (meaning d₂)) is
-              ∙ (ap (λ n. failing n (passes (meaning d₂) (take (reach e ss) ss))) (sym (counts .size))
-              ∙ failing-same (meaning d′ .size) _ _ (λ k lt. ap (λ x. among x (leaves k (blank ∷ []) (take (reach e ss) ss))) (sym (counts .shows k (subst (λ n. k < n) (counts .size) lt))))));
-          allowed = λ fresh zero-at.
-              counts .answer
-              ∙ (ap (wrong (meaning d₂)) is
-              ∙ failing-none (meaning d₂ .size) (passes (meaning d₂) (take (reach e ss) ss)) (λ k lt.
-              let lt₁ = subst (λ n. k < n) (rule .size) lt in
-              let lt₀ = subst (λ n. k < n) (ran .size) lt₁ in
-              let i = ran .allows fresh k (meaning d₂ .shown k) lt₀ (rule .answer .picks k lt₁) in
-              in-among (meaning d₂ .shown k) _ (subst (λ x. In (meaning d₂ .shown k) (leaves k (x ∷ []) (take (reach e ss) ss))) (zero-at k lt₀) i)));
-        };
+        stopped = d₁;
+        started = d₂;
+        ran = ended;
+        restarted = asked;
+        shows = counts .shows;
+        fewer = counts .fewer;
+        size = counts .size ∙ size₂;
+        live = counts .live (rule .answer .live) refl;
+        sound = counts .sound;
+        counts =
+            counts .answer
+            ∙ (ap (wrong (meaning d₂)) is
+            ∙ (ap (λ n. failing n (passes (meaning d₂) (take (reach e ss) ss))) (sym (counts .size))
+            ∙ failing-same (meaning d′ .size) _ _ (λ k lt. ap (λ x. among x (leaves k (blank ∷ []) (take (reach e ss) ss))) (sym (counts .shows k (subst (λ n. k < n) (counts .size) lt))))));
+        allowed = λ fresh zero-at.
+            counts .answer
+            ∙ (ap (wrong (meaning d₂)) is
+            ∙ failing-none (meaning d₂ .size) (passes (meaning d₂) (take (reach e ss) ss)) (λ k lt.
+            let lt₁ = subst (λ n. k < n) (rule .size) lt in
+            let lt₀ = subst (λ n. k < n) (ran .size) lt₁ in
+            let i = ran .allows fresh k (meaning d₂ .shown k) lt₀ (rule .answer .picks k lt₁) in
+            in-among (meaning d₂ .shown k) _ (subst (λ x. In (meaning d₂ .shown k) (leaves k (x ∷ []) (take (reach e ss) ss))) (zero-at k lt₀) i)));
       }
+
+ok-err : {f : DiskFault} → _≡_ {A = Answer} (Err f) (Ok tt) → ⊥
+ok-err e = both-ways false refl (ap isOk e)
+
+module _ (D : Type 0) (meaning : D → Meaning) (does : D → Request → Answer → D → Type 0) (d d₁ d₂ d′ : D) (ss done : List Step) (e : Ending) (f : DiskFault) where
+  -- the restart is refused, and a `?` hands that on
+  pub lost-restart : (r : Result Report DiskFault) → ErrBy r (λ g. g ≡ f) → Ended does ss d e d₁ → does d₁ restarting (Err f) d₂ → Restarts (meaning d₁) (Err f) (meaning d₂) →
+      StopAnswers meaning does d ss r d₂
+  lost-restart r by ended asked rule =
+      let q = err-from-errBy r by in
+      subst (λ t. StopAnswers meaning does d ss t d₂) (sym (q .1 ∙ ap Err (q .2))) (record {
+        ending = e;
+        stopped = d₁;
+        ran = ended;
+        refused = inl asked;
+        notCalm = λ c. ok-err (rule .calm .accepts c tt);
+      })
+
+  -- a look is refused
+  pub lost-look : (r : Result Report DiskFault) → ErrBy r (λ g. g ≡ f) → Ended does ss d e d₁ → does d₁ restarting (Ok tt) d₂ → Restarts (meaning d₁) (Ok tt) (meaning d₂) →
+      Counts (meaning d₂) done (Err f) (meaning d′) → StopAnswers meaning does d ss r d′
+  lost-look r by ended asked rule counts =
+      let q = err-from-errBy r by in
+      subst (λ t. StopAnswers meaning does d ss t d′) (sym (q .1 ∙ ap Err (q .2))) (record {
+        ending = e;
+        stopped = d₁;
+        ran = ended;
+        refused = inr (d₂, asked, counts .answer);
+        notCalm = λ c. both-ways false refl (counts .accepts (rule .calm .stays c) (rule .answer .live));
+      })

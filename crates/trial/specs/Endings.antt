@@ -8,6 +8,10 @@ use Rattle.plan.specs.declared.step.Step.the-variants.{Put, Settle}
 use Rattle.trial.specs.declared.ending.Ending.{Ending}
 use Rattle.trial.specs.declared.ending.Ending.the-variants.{Finished, Stopped}
 
+abbrev pub isFinished : Ending → Bool
+isFinished Finished = true
+isFinished (Stopped i f) = false
+
 abbrev pub isPut : Step → Bool
 isPut (Put n x) = true
 isPut Settle = false

@@ -2,6 +2,7 @@
 use mathlib.Core.Path.{_≡_}
 use mathlib.Core.List.{List, [], _∷_}
 use mathlib.Core.Bool.{Bool, true, false}
+use mathlib.Core.Logic.{_⊎_}
 use Prim.Native.Nat.{ℕ, _<_}
 use lib.ListN.{take}
 use Rattle.std.specs.Results.{isOk}
@@ -48,6 +49,7 @@ pub record Counts (m : Meaning) (ss : List Step) (r : Result ℕ DiskFault) (m�
   pub shows : Shows m m′
   pub fewer : Fewer m m′
   pub accepts : m .calm ≡ true → m .live ≡ true → isOk r ≡ true
+  pub live : m .live ≡ true → isOk r ≡ true → m′ .live ≡ true
   pub sound : Sound m′
 
 -- every sector is blank
@@ -56,22 +58,28 @@ Blank m = (k : ℕ) → k < m .size → m .shown k ≡ blank
 
 module _ {D : Type 0} (meaning : D → Meaning) (does : D → Request → Answer → D → Type 0) where
   -- a run, a restart, and then a look at all sectors, which are as the restart left them
-  pub record Survived (d : D) (ss : List Step) (p : Report) (d′ : D) : Type 0 where
+  pub record Reported (d : D) (ss : List Step) (p : Report) (d′ : D) : Type 0 where
     pub stopped : D
     pub started : D
     pub ran : Ended does ss d (p .ending) stopped
     pub restarted : does stopped restarting (Ok tt) started
     pub shows : Shows (meaning started) (meaning d′)
+    pub fewer : Fewer (meaning started) (meaning d′)
     pub size : meaning d′ .size ≡ meaning d .size
+    pub live : meaning d′ .live ≡ true
+    pub sound : Sound (meaning d′)
     pub counts : p .wrong ≡ wrong (meaning d′) (take (reach (p .ending) ss) ss)
     -- a fresh and blank disk, of whatever kind, is left with nothing that the plan does not allow
     pub allowed : Fresh (meaning d) → Blank (meaning d) → p .wrong ≡ 0
 
-  -- refused, the disk is gone; a calm disk is never
-  abbrev pub StopAnswers : D → List Step → Result Report DiskFault → D → Type 0
-  StopAnswers d ss (Ok p) d′ = Survived d ss p d′
-  StopAnswers d ss (Err f) d′ = meaning d′ .live ≡ false
+  -- a run, and then a disk that refuses its restart with this fault, or is gone after it; one that is calm after the run does neither
+  pub record Lost (d : D) (ss : List Step) (f : DiskFault) (d′ : D) : Type 0 where
+    pub ending : Ending
+    pub stopped : D
+    pub ran : Ended does ss d ending stopped
+    pub refused : does stopped restarting (Err f) d′ ⊎ ((started : D) × does stopped restarting (Ok tt) started × (meaning d′ .live ≡ false))
+    pub notCalm : meaning stopped .calm ≡ true → ⊥
 
-  pub record Stopped (d : D) (ss : List Step) (r : Result Report DiskFault) (d′ : D) : Type 0 where
-    pub answer : StopAnswers d ss r d′
-    pub accepts : meaning d .calm ≡ true → isOk r ≡ true
+  abbrev pub StopAnswers : D → List Step → Result Report DiskFault → D → Type 0
+  StopAnswers d ss (Ok p) d′ = Reported d ss p d′
+  StopAnswers d ss (Err f) d′ = Lost d ss f d′

@@ -1,5 +1,5 @@
 ghost use mathlib.Core.Path.{_≡_};
-ghost use Rattle.trial.specs.Endings.{isPut, reach};
+ghost use Rattle.trial.specs.Endings.{isFinished, isPut, reach};
 use disk::fault::DiskFault;
 use disk::fault::DiskFaultDebug;
 use disk::fault::DiskFaultPartialEq;
@@ -22,6 +22,16 @@ fn is_put(step: &Step) -> bool
 }
 
 impl Ending {
+    /// Whether the plan ran to its end.
+    pub fn is_finished(&self) -> bool
+        ensures { λ r. ⌜ r ≡ isFinished (now (self .entry)) ⌝ }
+    {
+        match self {
+            Ending::Finished => true,
+            Ending::Stopped { .. } => false,
+        }
+    }
+
     /// How many steps may have come down: those accepted, and a put that was not, but not a settle that was not.
     pub fn reach(&self, steps: &[Step]) -> usize
         ensures { λ r. ⌜ r ≡ reach (now (self .entry)) (now (steps .entry)) ⌝ }

@@ -1,4 +1,4 @@
-ghost use Rattle.trial.specs.Stops.{Looks, Counts, Stopped};
+ghost use Rattle.trial.specs.Stops.{Looks, Counts, StopAnswers};
 use crate::ending::Ending;
 use crate::ending::EndingDebug;
 use crate::judge::allowed;
@@ -39,7 +39,7 @@ fn count_wrong<D: Disk>(disk: &mut D, steps: &[Step]) -> Result<usize, DiskFault
 /// Runs a plan on a disk up to its end or the first refusal, restarts the disk as after a power stop, and judges every sector.
 /// From a fresh and blank disk, of whatever kind, nothing is left that the plan does not allow.
 pub fn power_stop<D: Disk>(disk: &mut D, steps: &[Step]) -> Result<Report, DiskFault>
-    ensures { λ r. ⌜ Stopped (D·Disk .meaning) (D·Disk .does) (now (disk .entry)) (now (steps .entry)) r (now (disk .exit)) ⌝ }
+    ensures { λ r. ⌜ StopAnswers (D·Disk .meaning) (D·Disk .does) (now (disk .entry)) (now (steps .entry)) r (now (disk .exit)) ⌝ }
 {
     let ending = run(disk, steps);
     let reach = ending.reach(steps);

@@ -7,7 +7,7 @@ use Rattle.powerstop.proofs.Cleans.{clean-over, clean-fused, clean-held}
 use Rattle.powerstop.proofs.pile.try_over.Needs as need
 
 pub returns-in-Image : need.returns-in-Image
-returns-in-Image c zero-at = c .try-disk .ensures (clean-over _ _ (c .new-image .ensures ∙ zero-at))
+returns-in-Image c zero-at = c .try-disk .ensures .clean (clean-over _ _ (c .new-image .ensures ∙ zero-at))
 
 pub returns-in-Hold : need.returns-in-Hold
 returns-in-Hold c zero-at = c .try-under-hold .ensures (clean-over _ _ (c .new-image .ensures ∙ zero-at))

@@ -34,7 +34,7 @@ returns-then-keep g c =
     let live = sym (c .if-not-live .ensures tt .is) in
     let told = c .if-keep .ensures tt in
     record {
-      rule = puts-kept (at (rows t)) (at (rows u)) _ _ _ (omega (arith, c .size .ensures .is)) live (c .size .ensures .sound) (all-whole u) (told .0);
+      rule = puts-kept (at (rows t)) (at (rows u)) _ _ _ (omega (arith, c .size .ensures .is)) live (c .size .ensures .sound) (all-whole u) (told .0 .kept);
       done = reaches-alive _ _ _ (rows t) _ _ (rows u) _ (omega (arith, c .size .ensures .is)) live (keeps-room _ _ _ _ _ _ _ told);
     }
 
@@ -70,6 +70,6 @@ returns g c =
     let room : length (rows v) < 16 = omega (arith, h .fewer) in
     let with = kept-with (rows v) _ _ _ (rows u) room (c .keep-2 .ensures) in
     record {
-      rule = then-put _ _ _ _ _ s (puts-kept (at (rows v)) (at (rows u)) _ _ _ (omega (arith, c .size .ensures .is, s .size)) (s .answer .1) (h .sound) (all-whole u) with);
+      rule = then-put _ _ _ _ _ s (puts-kept (at (rows v)) (at (rows u)) _ _ _ (omega (arith, c .size .ensures .is, s .size)) (s .answer .1) (h .sound) (all-whole u) (with .kept));
       done = reaches-alive _ _ _ (rows t) _ _ (rows u) _ (omega (arith, c .size .ensures .is)) live (keeps-full _ _ _ _ _ _ _ _ _ _ _ told (h .done) with);
     }

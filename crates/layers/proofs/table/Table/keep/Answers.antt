@@ -4,7 +4,7 @@ use mathlib.Core.Path.{_≡_, refl, ap}
 use lib.ListN.{length-set, length-take}
 use Rattle.std.proofs.shelf.Lists.{length-take-le}
 use Rattle.std.specs.Options.{isSome}
-use Rattle.layers.proofs.Rows.{copied, missing, kept-in, tidy-in, kept-end, tidy-end}
+use Rattle.layers.proofs.Rows.{copied, missing, kept-in, count-in, tidy-in, kept-end, count-end, tidy-end}
 use Rattle.layers.proofs.table.Table.keep.Needs as need
 
 pub ghost-self : need.ghost-self
@@ -20,7 +20,10 @@ ghost-self c =
 pub returns-then-i-self : need.returns-then-i-self
 returns-then-i-self c =
     let t = c .args .self .now in (
-      kept-in (t .slots) (t .count) (omega arith) _ (c .args .n) (c .place-i .result) (c .place-i .ensures) refl (c .if-i-self .taken),
+      record {
+        kept = kept-in (t .slots) (t .count) (omega arith) _ (c .args .n) (c .place-i .result) (c .place-i .ensures) refl (c .if-i-self .taken);
+        count = count-in (t .slots) (t .count) (omega arith) _ (c .args .n) (c .place-i .result) (c .place-i .ensures) refl (c .if-i-self .taken);
+      },
       inl (ap isSome (copied (t .slots) (t .count) (omega arith) (c .args .n) (c .place-i .result) (c .place-i .ensures) (c .if-i-self .taken))),
     )
 
@@ -41,7 +44,10 @@ returns-then-i-lt16 c =
     let t = c .args .self .now in
     let w = c .place-i .ensures .within in
     let is : c .place-i .result ≡ t .count = omega (arith, simp length-take at w) in (
-      kept-end (t .slots) (t .count) (omega arith) _ (c .args .n) (c .place-i .result) (c .place-i .ensures) refl is (omega arith),
+      record {
+        kept = kept-end (t .slots) (t .count) (omega arith) _ (c .args .n) (c .place-i .result) (c .place-i .ensures) refl is (omega arith);
+        count = count-end (t .slots) (t .count) (omega arith) _ (c .args .n) (c .place-i .result) (c .place-i .ensures) refl is (omega arith);
+      },
       inr (simp length-take (omega arith)),
     )
 
