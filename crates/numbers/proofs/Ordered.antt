@@ -12,13 +12,13 @@ use Rattle.numbers.specs.Order.{Cmp, below, same, above, turn, then, cmpℕ, c
 use Rattle.numbers.proofs.Naming.{good-every, good-length}
 
 -- BYTES
-turnℕ : (m n : ℕ) → cmpℕ n m ≡ turn (cmpℕ m n)
+pub turnℕ : (m n : ℕ) → cmpℕ n m ≡ turn (cmpℕ m n)
 turnℕ zero zero = refl
 turnℕ zero (suc n) = refl
 turnℕ (suc m) zero = refl
 turnℕ (suc m) (suc n) = turnℕ m n
 
-sameℕ : (m n : ℕ) → cmpℕ m n ≡ same → m ≡ n
+pub sameℕ : (m n : ℕ) → cmpℕ m n ≡ same → m ≡ n
 sameℕ zero zero e = refl
 sameℕ zero (suc n) e = cc
 sameℕ (suc m) zero e = cc
@@ -28,7 +28,7 @@ itselfℕ : (n : ℕ) → cmpℕ n n ≡ same
 itselfℕ zero = refl
 itselfℕ (suc n) = itselfℕ n
 
-transℕ : (a b c : ℕ) → cmpℕ a b ≡ below → cmpℕ b c ≡ below → cmpℕ a c ≡ below
+pub transℕ : (a b c : ℕ) → cmpℕ a b ≡ below → cmpℕ b c ≡ below → cmpℕ a c ≡ below
 transℕ zero zero c e f = cc
 transℕ zero (suc b) zero e f = cc
 transℕ zero (suc b) (suc c) e f = refl
@@ -36,7 +36,7 @@ transℕ (suc a) zero c e f = cc
 transℕ (suc a) (suc b) zero e f = cc
 transℕ (suc a) (suc b) (suc c) e f = transℕ a b c e f
 
-lessℕ : (m n : ℕ) → m < n → cmpℕ m n ≡ below
+pub lessℕ : (m n : ℕ) → m < n → cmpℕ m n ≡ below
 lessℕ zero zero h = absurd (omega arith)
 lessℕ zero (suc n) h = refl
 lessℕ (suc m) zero h = absurd (omega arith)

@@ -1,0 +1,6 @@
+use Rattle.tree.proofs.examples_stand.Needs as need
+use Rattle.tree.proofs.Worked.{examples}
+use Rattle.tree.proofs.Tall.{reached}
+
+pub returns : need.returns
+returns c = record { worked = examples; reached = reached }

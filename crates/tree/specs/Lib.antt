@@ -1,0 +1,7 @@
+pub mod Tree
+pub mod Insert
+pub mod Delete
+pub mod Fresh
+pub mod Laws
+pub mod Examples
+pub mod Stored
