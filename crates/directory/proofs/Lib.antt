@@ -1,0 +1,4 @@
+pub mod Cutting
+pub mod Editing
+pub mod Finding
+pub mod Sharing
