@@ -2,3 +2,4 @@ pub mod Cutting
 pub mod Editing
 pub mod Finding
 pub mod Sharing
+pub mod Treeing

@@ -10,6 +10,8 @@ use Rattle.numbers.specs.declared.sector.Sector.{Sector}
 use Rattle.layout.specs.declared.entry.Entry.{Entry}
 use Rattle.layout.specs.Pages.{PageData}
 use Rattle.layout.specs.Entries.{leastEntries}
+-- what a page lends to a neighbour left with 11, and how many entries the left one of two neighbours ends with
+pub use Rattle.tree.specs.Delete.{lent, share}
 
 -- an entry over another child
 abbrev pub over : Entry → Option Sector → Entry
@@ -40,14 +42,6 @@ short = leastEntries - 1
 -- one of two neighbours is left with 11 entries, and the other has more than 12
 abbrev pub uneven : PageData → PageData → Bool
 uneven p q = let a = length (p .rows) in let b = length (q .rows) in (eqb a short && ltb leastEntries b) || (ltb leastEntries a && eqb b short)
-
--- what a page lends to a neighbour left with 11: half of what it has beyond 11
-abbrev pub lent : ℕ → ℕ
-lent c = (c - short) / 2
-
--- of two neighbours with a and b entries, how many the left one ends with
-abbrev pub share : ℕ → ℕ → ℕ
-share a b = cond (ltb a b) (a + lent b) (a - lent a)
 
 -- what holds of lines and of pages that share them
 pub record LineLaws : Type 0 where
