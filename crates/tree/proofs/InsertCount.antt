@@ -61,7 +61,7 @@ module _ {K : Type 0} (cmp : K → K → Cmp) {S : Type 0} (O N : S → Type 0) 
           (omega (arith, r .0), before-altered N home m l (length xs) c e (w .0) (h .0) (r .1))
 
 module _ {K : Type 0} (cmp : K → K → Cmp) (o : (n : ℕ) → Sub K n → Bool) (home : K → Home) (marks : Marks cmp o home) where
-  abbrev Fresh : (n : ℕ) → Sub K n → Type 0
+  abbrev pub Fresh : (n : ℕ) → Sub K n → Type 0
   Fresh n t = New cmp o home n t
 
   abbrev ψ : (n : ℕ) → Sub K n → ℕ
@@ -73,7 +73,7 @@ module _ {K : Type 0} (cmp : K → K → Cmp) (o : (n : ℕ) → Sub K n → Boo
   altered-new n l c xs h (inr (s, b)) = new-resized cmp o home marks n l c xs (λ e. absurd (omega arith)) (but-some _ xs (omega arith) b)
 
   -- of two, both are new
-  abbrev SplitNew : (n : ℕ) → Up K (Sub K n) → Type 0
+  abbrev pub SplitNew : (n : ℕ) → Up K (Sub K n) → Type 0
   SplitNew n (one p) = Unit {0}
   SplitNew n (two p e q) = Fresh n p × Fresh n q
 
@@ -130,6 +130,26 @@ module _ {K : Type 0} (cmp : K → K → Cmp) (o : (n : ℕ) → Sub K n → Boo
       let i = up-counts n (fit (w .0)) s (split-new n (length xs) (w .0) (h .0 .1) (r .1)) in
       let j = fit-pages (ψ n) (w .0) in
       (omega (arith, r .0), s)
+
+  -- every page that comes back is new
+  abbrev pub AllNew : (n : ℕ) → Up K (Sub K n) → Type 0
+  AllNew n (one p) = Fresh n p
+  AllNew n (two p e q) = Fresh n p × Fresh n q
+
+  all-new : (n : ℕ) (u : Up K (Sub K n)) → NewUp (Fresh n) u → SplitNew n u → AllNew n u
+  all-new n (one p) h s = h
+  all-new n (two p e q) h s = s
+
+  pub ins-fresh : (n : ℕ) (x : Entry K) (t : Sub K (suc n)) → Held K o (suc n) t → (look cmp (suc n) (x .0) t ≡ at (x .1) → ⊥) → AllNew (suc n) (ins cmp (suc n) x t .0)
+  ins-fresh n x (page c xs) h q =
+      let w = insIn cmp (ins cmp n x) x c xs in
+      let r = page-new n 12 x c xs (ins-new n x) (h .0) (h .1) q in
+      all-new (suc n) (fit (w .0)) (fit-new n (length xs) (w .0) (omega (arith, h .0 .0)) (r .1)) (split-new n (length xs) (w .0) (h .0 .1) (r .1))
+
+  pub root-fresh : (n low : ℕ) (x : Entry K) (p : Sub K (suc n)) → FullPage (Full K n) low p → Marked K o (suc n) p → (look cmp (suc n) (x .0) p ≡ at (x .1) → ⊥) → SplitNew (suc n) (ins cmp (suc n) x p .0)
+  root-fresh n low x (page c xs) h k q =
+      let w = insIn cmp (ins cmp n x) x c xs in
+      let r = page-new n low x c xs (ins-new n x) h k q in split-new n (length xs) (w .0) (h .1) (r .1)
 
   grow-new : (n : ℕ) (u : Up K (Sub K (suc n))) (k : ℕ) → SplitNew (suc n) u → pagesUp (pagesPage (ψ n)) u ≡ k → let r = grow n (u, k) in sumChildren (ψ (r .0 .over)) (r .0 .root) ≡ r .1
   grow-new n (one (page c xs)) k s e = omega arith

@@ -12,21 +12,21 @@ use Rattle.tree.proofs.Stored.{load-stays, sectors-stay, stored-at, write-same
 module _ (K : Type 0) (free : ℕ → ℕ) (r m : ℕ) (distinct : (i j : ℕ) → i < m → j < m → free i ≡ free j → i ≡ j) (apart : (i : ℕ) → i < m → r ≡ free i → ⊥)
     (o : (n : ℕ) → Sub K n → Bool) (place : (n : ℕ) → Sub K n → ℕ) (d₀ : Shown K)
     (marked : (n : ℕ) (s : Sub K (suc n)) → o (suc n) s ≡ true → (load d₀ (suc n) (place (suc n) s) ≡ s) × Sectors (Off free r m 0) d₀ (suc n) (place (suc n) s) × (unmarked K o (suc n) s ≡ 0)) where
-  abbrev B : ℕ → ℕ → Type 0
+  abbrev pub B : ℕ → ℕ → Type 0
   B i b = Off free r m i b
 
-  more : (i j : ℕ) → i ≤ j → (b : ℕ) → B i b → B j b
+  pub more : (i j : ℕ) → i ≤ j → (b : ℕ) → B i b → B j b
   more i j l b h = off-more K free r m distinct apart i j l b h
 
   -- the old sectors are still as they were
-  abbrev Keeps : Shown K → Type 0
+  abbrev pub Keeps : Shown K → Type 0
   Keeps d = (b : ℕ) → B 0 b → d b ≡ d₀ b
 
-  abbrev Laid : (n : ℕ) → Sub K n → Shown K → ℕ → ℕ × Shown K × ℕ → Type 0
+  abbrev pub Laid : (n : ℕ) → Sub K n → Shown K → ℕ → ℕ × Shown K × ℕ → Type 0
   Laid n s d i w = (load (w .1) n (w .0) ≡ s) × (w .2 ≡ i + unmarked K o n s) × ((b : ℕ) → B i b → w .1 b ≡ d b) × Sectors (B (w .2)) (w .1) n (w .0)
 
   module _ (n : ℕ) (lays : (s : Sub K n) (d : Shown K) (i : ℕ) → Keeps d → i + unmarked K o n s ≤ m → Laid n s d i (lay free o place n s d i)) where
-    rest-laid : (xs : List (Item K (Sub K n))) (d : Shown K) (i : ℕ) → Keeps d → i + pagesRest (unmarked K o n) xs ≤ m →
+    pub rest-laid : (xs : List (Item K (Sub K n))) (d : Shown K) (i : ℕ) → Keeps d → i + pagesRest (unmarked K o n) xs ≤ m →
         let w = layRest (lay free o place n) xs d i in
         (mapRest (load (w .1) n) (w .0) ≡ xs) × (w .2 ≡ i + pagesRest (unmarked K o n) xs) × ((b : ℕ) → B i b → w .1 b ≡ d b) × All (child (Sectors (B (w .2)) (w .1) n)) (w .0)
     rest-laid [] d i k l = (refl, omega arith, λ b h. refl, tt)

@@ -23,3 +23,10 @@ pub mod Tall
 pub mod Stored
 pub mod Laid
 pub mod Shared
+pub mod Places
+pub mod Stay
+pub mod Freed
+pub mod FreedInsert
+pub mod Balance
+pub mod FreedCount
+pub mod StoredWorked

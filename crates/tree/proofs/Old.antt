@@ -33,7 +33,7 @@ module _ {K : Type 0} (eq : K → K → Bool) (is : IsSame K eq) where
   rest-refl f r [] = refl
   rest-refl f r (item e d ∷ xs) = and-from _ _ (and-from _ _ (is .itself (e .0)) (eq-eqb (e .1) (e .1) refl)) (and-from _ _ (r d) (rest-refl f r xs))
 
-  sub-refl : (n : ℕ) (t : Sub K n) → sameSub eq n n t t ≡ true
+  pub sub-refl : (n : ℕ) (t : Sub K n) → sameSub eq n n t t ≡ true
   sub-refl zero t = refl
   sub-refl (suc n) (page c xs) = and-from _ _ (sub-refl n c) (rest-refl (sameSub eq n n) (sub-refl n) xs)
 

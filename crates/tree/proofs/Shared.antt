@@ -28,14 +28,14 @@ module _ {K : Type 0} (eq : K → K → Bool) (is : IsSame K eq) where
       let q = and-parts (f c d) (sameRest eq f xs ys) (p .1) in
       ap₂ (λ (i : Item K S) (l : List (Item K S)). i ∷ l) (ap₂ item (entry-exact eq is a b (p .0)) (h c d (q .0))) (rest-exact f h xs ys (q .1))
 
-  sub-exact : (n : ℕ) (s t : Sub K n) → sameSub eq n n s t ≡ true → s ≡ t
+  pub sub-exact : (n : ℕ) (s t : Sub K n) → sameSub eq n n s t ≡ true → s ≡ t
   sub-exact zero s t h = refl
   sub-exact (suc n) (page c xs) (page d ys) h =
       let p = and-parts (sameSub eq n n c d) (sameRest eq (sameSub eq n n) xs ys) h in ap₂ page (sub-exact n c d (p .0)) (rest-exact (sameSub eq n n) (λ a b e. sub-exact n a b e) xs ys (p .1))
 
   module _ (d : Shown K) (B : ℕ → Type 0) where
     -- s stands at a
-    abbrev At : (n : ℕ) → Sub K n → ℕ → Type 0
+    abbrev pub At : (n : ℕ) → Sub K n → ℕ → Type 0
     At n s a = (load d n a ≡ s) × Sectors B d n a
 
     same-at : (m n a : ℕ) (s : Sub K n) → Sectors B d m a → sameSub eq m n (load d m a) s ≡ true → At n s a
@@ -57,11 +57,11 @@ module _ {K : Type 0} (eq : K → K → Bool) (is : IsSame K eq) where
         go true e r = each c p e
         go false e r = r (rw (same c ∙ e) at q)
 
-    page-at : (m n : ℕ) (s : Sub K n) → ((b : ℕ) → Sectors B d m b → has eq m (load d m b) n s ≡ true → At n s (whereIs eq d m b n s)) → (p : Page K ℕ) → Each (Sectors B d m) p →
+    pub page-at : (m n : ℕ) (s : Sub K n) → ((b : ℕ) → Sectors B d m b → has eq m (load d m b) n s ≡ true → At n s (whereIs eq d m b n s)) → (p : Page K ℕ) → Each (Sectors B d m) p →
         anyChild (λ c. has eq m c n s) (mapPage (load d m) p) ≡ true → At n s (firstPage eq d (λ b. has eq m (load d m b) n s) (λ b. whereIs eq d m b n s) p)
     page-at m n s each (page c xs) h e = first-at m n s (λ b. has eq m (load d m b) n s) (λ b. whereIs eq d m b n s) each c xs (h .0) (h .1) (λ c. has eq m c n s) (λ b. refl) e
 
-    where-at : (m a n : ℕ) (s : Sub K n) → Sectors B d m a → has eq m (load d m a) n s ≡ true → At n s (whereIs eq d m a n s)
+    pub where-at : (m a n : ℕ) (s : Sub K n) → Sectors B d m a → has eq m (load d m a) n s ≡ true → At n s (whereIs eq d m a n s)
     where-at zero a n s h e = let z : _≡_ {A = ℕ} 0 1 = cc in absurd (omega arith)
     where-at (suc m) a n s h e = go (sameSub eq (suc m) n (load d (suc m) a) s) refl (page-at m n s (λ b i j. where-at m b n s i j) (d a) (h .1)) e
       where
@@ -100,7 +100,7 @@ module _ {K : Type 0} (eq : K → K → Bool) (is : IsSame K eq) where
   below-kids : (m : ℕ) (q : Sub K (suc m)) (n : ℕ) (p : Sub K (suc (suc n))) → anyChild (λ c. has eq m c (suc (suc n)) p) q ≡ true → Kids n (λ x. anyChild (λ c. has eq m c (suc n) x) q ≡ true) p
   below-kids m (page c ys) n p h = kids-rest n m (λ x. anyChild (λ c. has eq m c (suc n) x) (page c ys) ≡ true) p c ys (λ x k. k) h
 
-  below-none : (t : Tree K) (n : ℕ) (s : Sub K (suc n)) → hasBelow eq t (suc n) s ≡ true → unmarked K (hasBelow eq t) (suc n) s ≡ 0
+  pub below-none : (t : Tree K) (n : ℕ) (s : Sub K (suc n)) → hasBelow eq t (suc n) s ≡ true → unmarked K (hasBelow eq t) (suc n) s ≡ 0
   below-none t zero (page c xs) h = rw h (let j = leaf xs in omega arith)
     where
       leaf : (xs : List (Item K (Sub K 0))) → pagesRest (unmarked K (hasBelow eq t) 0) xs ≡ 0

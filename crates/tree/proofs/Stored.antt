@@ -48,7 +48,7 @@ child-map : {K : Type 0} (B C : ℕ → Type 0) (xs : List (Item K ℕ)) → ((a
 child-map B C [] f h = tt
 child-map B C (item e d ∷ xs) f h = (f d (h .0), child-map B C xs f (h .1))
 
-page-map : {K : Type 0} (B C : ℕ → Type 0) → ((a : ℕ) → B a → C a) → (p : Page K ℕ) → Each B p → Each C p
+pub page-map : {K : Type 0} (B C : ℕ → Type 0) → ((a : ℕ) → B a → C a) → (p : Page K ℕ) → Each B p → Each C p
 page-map B C f (page c xs) h = (f c (h .0), child-map B C xs f (h .1))
 
 module _ {K : Type 0} (d d′ : Shown K) (B C : ℕ → Type 0) (more : (b : ℕ) → B b → C b) (keep : (b : ℕ) → B b → d′ b ≡ d b) where
@@ -85,7 +85,7 @@ module _ {K S T : Type 0} (g : S → T) where
   halves-map c l [] = refl
   halves-map c l (item e d ∷ r) = refl
 
-  fit-map : (p : Page K S) → fit (mapPage g p) ≡ mapUp (mapPage g) (fit p)
+  pub fit-map : (p : Page K S) → fit (mapPage g p) ≡ mapUp (mapPage g) (fit p)
   fit-map (page c xs) = rw (length-map xs) (go (leb (length xs) 24))
     where
       go : (b : Bool) → cond b (one (page (g c) (mapRest g xs))) (cut 12 (g c) (mapRest g xs)) ≡ mapUp (mapPage g) (cond b (one (page c xs)) (cut 12 c xs))
@@ -103,7 +103,7 @@ module _ {K S T : Type 0} (g : S → T) where
   tops-map (one p) = refl
   tops-map (two p e q) = refl
 
-abbrev EachUp : {K S : Type 0} → (S → Type 0) → Up K S → Type 0
+abbrev pub EachUp : {K S : Type 0} → (S → Type 0) → Up K S → Type 0
 EachUp B (one a) = B a
 EachUp B (two a e b) = B a × B b
 
@@ -119,7 +119,7 @@ module _ {K : Type 0} (B : ℕ → Type 0) where
   halves-each c l [] h a b = (h, a)
   halves-each c l (item e d ∷ r) h a b = ((h, a), (b .0, b .1))
 
-  fit-each : (p : Page K ℕ) → Each B p → EachUp (Each B) (fit p)
+  pub fit-each : (p : Page K ℕ) → Each B p → EachUp (Each B) (fit p)
   fit-each (page c xs) h = go (leb (length xs) 24)
     where
       s : All (child B) (take 12 xs ++ drop 12 xs)
@@ -138,10 +138,10 @@ write-other d a b p h = rw (ne-eqb a b h)
 -- THE WAY DOWN
 module _ {K T : Type 0} (cmp : K → K → Cmp) (g : ℕ → T) (B : ℕ → Type 0) (f : T → Up K T × ℕ) (x : Entry K) where
   -- the page r around what comes back from the child a, whatever the sectors show later
-  Around : ℕ → (Up K ℕ → Page K ℕ) → Page K T → Type 1
+  unfoldable pub Around : ℕ → (Up K ℕ → Page K ℕ) → Page K T → Type 1
   Around a r q = (g′ : ℕ → T) (C : ℕ → Type 0) → ((b : ℕ) → B b → g′ b ≡ g b) → ((b : ℕ) → B b → C b) → (u : Up K ℕ) → mapUp g′ u ≡ f (g a) .0 → EachUp C u → (mapPage g′ (r u) ≡ q) × Each C (r u)
 
-  abbrev Same : Way K → Page K T × ℕ → Type 1
+  abbrev pub Same : Way K → Page K T × ℕ → Type 1
   Same (here p) q = (mapPage g p ≡ q .0) × (q .1 ≡ 0) × Each B p × Unit {1}
   Same (into a r) q = (q .1 ≡ f (g a) .1) × B a × Around a r (q .0)
 
@@ -160,7 +160,7 @@ module _ {K T : Type 0} (cmp : K → K → Cmp) (g : ℕ → T) (B : ℕ → Typ
   unfolding Around
   spliced c xs a g′ C same′ up u i j = (splice-map g′ u xs ∙ ap₂ splice i (rest-frames g g′ B same′ xs a), splice-each C u xs j (child-map B C xs up a))
 
-  wayIn-same : (c : ℕ) (xs : List (Item K ℕ)) → B c → All (child B) xs → Same (wayIn cmp x c xs) (insIn cmp f x (g c) (mapRest g xs))
+  pub wayIn-same : (c : ℕ) (xs : List (Item K ℕ)) → B c → All (child B) xs → Same (wayIn cmp x c xs) (insIn cmp f x (g c) (mapRest g xs))
   wayIn-same c [] h a = (refl, h, spliced c [] tt)
   wayIn-same c (item e d ∷ xs) h a = go (cmp (x .0) (e .0)) (wayIn-same d xs (a .0) (a .1))
     where
@@ -184,13 +184,13 @@ module _ (K : Type 0) (free : ℕ → ℕ) (r m : ℕ) (distinct : (i j : ℕ) �
   pub off-new : (i j : ℕ) → i < j → i < m → B j (free i)
   off-new i j l s = (λ k a c e. let z = distinct k i c s e in absurd (omega arith), apart i s)
 
-  record Out (n : ℕ) (d : Shown K) (i : ℕ) (u : Up K (Page K (Sub K n))) (f : ℕ) (s : Up K ℕ × Shown K × ℕ) : Type 0 where
-    tree : mapUp (load (s .1) (suc n)) (s .0) ≡ u
-    used : s .2 ≡ i + f
-    kept : (b : ℕ) → B i b → s .1 b ≡ d b
-    under : EachUp (Sectors (B (s .2)) (s .1) (suc n)) (s .0)
+  pub record Out (n : ℕ) (d : Shown K) (i : ℕ) (u : Up K (Page K (Sub K n))) (f : ℕ) (s : Up K ℕ × Shown K × ℕ) : Type 0 where
+    pub tree : mapUp (load (s .1) (suc n)) (s .0) ≡ u
+    pub used : s .2 ≡ i + f
+    pub kept : (b : ℕ) → B i b → s .1 b ≡ d b
+    pub under : EachUp (Sectors (B (s .2)) (s .1) (suc n)) (s .0)
 
-  store-out : (n : ℕ) (d : Shown K) (i : ℕ) (u : Up K (Page K ℕ)) → i + tops u ≤ m → EachUp (Each (Sectors (B i) d n)) u → Out n d i (mapUp (mapPage (load d n)) u) (tops u) (store free d i u)
+  pub store-out : (n : ℕ) (d : Shown K) (i : ℕ) (u : Up K (Page K ℕ)) → i + tops u ≤ m → EachUp (Each (Sectors (B i) d n)) u → Out n d i (mapUp (mapPage (load d n)) u) (tops u) (store free d i u)
   store-out n d i (one p) l h =
       let keep : (b : ℕ) → B i b → write d (free i) p b ≡ d b = λ b o. write-other d (free i) b p (λ e. o .0 i (omega arith) (omega arith) e) in
       let s = stored-at d (write d (free i) p) (B i) (B (i + 1)) (off-more i (i + 1) (omega arith)) keep n (free i) p (write-same d (free i) p) (off-new i (i + 1) (omega arith) (omega arith)) h in
@@ -226,7 +226,7 @@ module _ (K : Type 0) (free : ℕ → ℕ) (r m : ℕ) (distinct : (i j : ℕ) �
           let a = s .2 (load (v .1) n) (Sectors (B (v .2)) (v .1) n) (load-stays d (v .1) (B i) (B (v .2)) up (t .2) n) (sectors-stay d (v .1) (B i) (B (v .2)) up (t .2) n) (v .0) (t .0) (t .3) in
           record { it = a .0; used = omega arith; kept = t .2; under = a .1 }
 
-      page-out : (p : Page K ℕ) → let q = mapPage (load d n) p in i + insPage cmp (ins cmp n x) x q .1 ≤ m + tops (insPage cmp (ins cmp n x) x q .0) → Each (Sectors (B i) d n) p →
+      pub page-out : (p : Page K ℕ) → let q = mapPage (load d n) p in i + insPage cmp (ins cmp n x) x q .1 ≤ m + tops (insPage cmp (ins cmp n x) x q .0) → Each (Sectors (B i) d n) p →
           let w = around (insStored cmp free n x d i) d i (way cmp x p) in
           (fit (mapPage (load (w .1) n) (w .0)) ≡ insPage cmp (ins cmp n x) x q .0) × (w .2 + tops (fit (w .0)) ≡ i + insPage cmp (ins cmp n x) x q .1) × ((b : ℕ) → B i b → w .1 b ≡ d b) × Each (Sectors (B (w .2)) (w .1) n) (w .0) × (i ≤ w .2)
       page-out (page c xs) l h =
@@ -238,7 +238,7 @@ module _ (K : Type 0) (free : ℕ → ℕ) (r m : ℕ) (distinct : (i j : ℕ) �
           let y = o .used in
           (ap fit (o .it), omega arith, o .kept, o .under, omega arith)
 
-    ins-out : (n : ℕ) (x : Entry K) (d : Shown K) (i c : ℕ) → i + ins cmp n x (load d n c) .1 ≤ m → Sectors (B i) d n c →
+    pub ins-out : (n : ℕ) (x : Entry K) (d : Shown K) (i c : ℕ) → i + ins cmp n x (load d n c) .1 ≤ m → Sectors (B i) d n c →
         let s = insStored cmp free n x d i c in (mapUp (load (s .1) n) (s .0) ≡ ins cmp n x (load d n c) .0) × (s .2 ≡ i + ins cmp n x (load d n c) .1) × ((b : ℕ) → B i b → s .1 b ≡ d b) × EachUp (Sectors (B (s .2)) (s .1) n) (s .0)
     ins-out zero x d i c l h = (refl, omega arith, λ b o. refl, (tt, tt))
     ins-out (suc n) x d i c l h =
@@ -275,7 +275,7 @@ module _ (K : Type 0) (free : ℕ → ℕ) (r m : ℕ) (distinct : (i j : ℕ) �
           λ b w. keep b (off-more i (i + 2) (omega arith) b w) ∙ o .kept b w,
         )
 
-grow-bound : {K : Type 0} (n : ℕ) (u : Up K (Sub K (suc n))) (k : ℕ) → k ≤ grow n (u, k) .1 + tops u
+pub grow-bound : {K : Type 0} (n : ℕ) (u : Up K (Sub K (suc n))) (k : ℕ) → k ≤ grow n (u, k) .1 + tops u
 grow-bound n (one p) k = omega arith
 grow-bound n (two p e q) k = omega arith
 

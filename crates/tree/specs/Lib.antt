@@ -5,3 +5,4 @@ pub mod Fresh
 pub mod Laws
 pub mod Examples
 pub mod Stored
+pub mod StoredExamples

@@ -1,11 +1,12 @@
 -- The tree as sectors hold it: a page as stored has the sectors of its children in their place.
 use Prim.Native.Nat.{ℕ, zero, suc, _+_, _≤_, _<_}
-use mathlib.Core.List.{List, [], _∷_}
+use mathlib.Core.List.{List, [], _∷_, _++_}
 use mathlib.Core.Path.{_≡_}
-use mathlib.Core.Bool.{Bool, cond}
+use mathlib.Core.Bool.{Bool, true, false, cond, _||_}
+use mathlib.Core.Logic.{_⊎_}
 use lib.Dec.{eqb}
 use Rattle.numbers.specs.Order.{Cmp}
-use Rattle.tree.specs.Tree.{Entry, Item, item, Page, page, Sub, Tree, pick, Found, absent, at, lookup, All, child, Good}
+use Rattle.tree.specs.Tree.{Entry, Item, item, Page, page, Sub, Tree, pick, Found, absent, at, lookup, All, child, pages, levels, mostLevels, Good}
 use Rattle.tree.specs.Insert.{Up, one, two, splice, before, fit, insert}
 use Rattle.tree.specs.Delete.{delete}
 use Rattle.tree.specs.Fresh.{IsSame, anyChild, sameSub, has, changed}
@@ -192,3 +193,98 @@ Replace-stores K = (eq : K → K → Bool) → IsSame K eq → (free : ℕ → �
 abbrev pub Delete-stores : {K : Type 0} → (K → K → Cmp) → Type 0
 Delete-stores {K} cmp = (eq : K → K → Bool) → IsSame K eq → (free : ℕ → ℕ) (d : Shown K) (n r : ℕ) (k : K) → Good cmp (loaded d n r) →
     Ready free d n r (delete cmp (loaded d n r) k .1) → Replaced eq free d n r (delete cmp (loaded d n r) k .0)
+
+-- WHAT IS SET FREE. One of the children of a page is as P says
+abbrev pub SomeRest : {K S : Type 0} → (S → Type 0) → List (Item K S) → Type 0
+SomeRest P [] = ⊥
+SomeRest P (item e d ∷ xs) = P d ⊎ SomeRest P xs
+
+abbrev pub SomeKid : {K S : Type 0} → (S → Type 0) → Page K S → Type 0
+SomeKid P (page c xs) = P c ⊎ SomeRest P xs
+
+-- in the tree of n levels at b, the sector a holds a page of j levels: that page is load d j a
+abbrev pub Stands : {K : Type 0} → Shown K → (n b j a : ℕ) → Type 0
+Stands d zero b j a = ⊥
+Stands d (suc n) b j a = ((suc n ≡ j) × (b ≡ a)) ⊎ SomeKid (λ c. Stands d n c j a) (d b)
+
+-- so below the root at r
+abbrev pub Under-root : {K : Type 0} → Shown K → (n r j a : ℕ) → Type 0
+Under-root d n r j a = SomeKid (λ c. Stands d n c j a) (d r)
+
+-- d′ holds the tree u in place of the one of n levels below its root at r, and m free sectors were taken
+pub record Frees {K : Type 0} (eq : K → K → Bool) (free : ℕ → ℕ) (d : Shown K) (n r : ℕ) (d′ : Shown K) (u : Tree K) (m : ℕ) : Type 0 where
+  -- an old page that is a page of the new tree stays in its sector
+  pub stays : (j a : ℕ) → Under-root d n r j a → hasBelow eq u j (load d j a) ≡ true → Under-root d′ (u .over) r j a
+  -- and only such a page: the sector of any other is one of the new tree no more
+  pub only : (j a : ℕ) → Under-root d n r j a → (i : ℕ) → Under-root d′ (u .over) r i a → hasBelow eq u j (load d j a) ≡ true
+  -- every sector of the new tree was one of the old tree, on the same level, or is one of the free ones
+  pub others : (j a : ℕ) → Under-root d′ (u .over) r j a → Under-root d n r j a ⊎ ((i : ℕ) × (i < m) × (free i ≡ a))
+
+-- any new tree of no more levels, over a good one
+abbrev pub Replace-frees : {K : Type 0} → (K → K → Cmp) → Type 0
+Replace-frees {K} cmp = (eq : K → K → Bool) → IsSame K eq → (free : ℕ → ℕ) (d : Shown K) (n r : ℕ) (u : Tree K) → u .over ≤ n → Good cmp (loaded d n r) → let m = changed eq (loaded d n r) u in
+    Ready free d n r m → Frees eq free d n r (replaced eq free d n r u .0) u m
+
+-- so a delete
+abbrev pub Delete-frees : {K : Type 0} → (K → K → Cmp) → Type 0
+Delete-frees {K} cmp = (eq : K → K → Bool) → IsSame K eq → (free : ℕ → ℕ) (d : Shown K) (n r : ℕ) (k : K) → Good cmp (loaded d n r) → let u = delete cmp (loaded d n r) k in
+    Ready free d n r (u .1) → Frees eq free d n r (replaced eq free d n r (u .0) .0) (u .0) (u .1)
+
+-- an insert of a number that the name does not have yet
+abbrev pub Insert-frees : {K : Type 0} → (K → K → Cmp) → Type 0
+Insert-frees {K} cmp = (eq : K → K → Bool) → IsSame K eq → (free : ℕ → ℕ) (d : Shown K) (n r : ℕ) (k : K) (v : ℕ) → Good cmp (loaded d n r) → (lookup cmp (loaded d n r) k ≡ at v → ⊥) → let u = insert cmp (loaded d n r) k v in
+    Ready free d n r (u .1) → Frees eq free d n r (insertStored cmp free d n r (k, v) .1) (u .0) (u .1)
+
+-- the sectors of the tree of n levels at b, page by page
+abbrev pub spotsRest : {K : Type 0} → (ℕ → List ℕ) → List (Item K ℕ) → List ℕ
+spotsRest f [] = []
+spotsRest f (item e b ∷ xs) = f b ++ spotsRest f xs
+
+abbrev pub spotsPage : {K : Type 0} → (ℕ → List ℕ) → Page K ℕ → List ℕ
+spotsPage f (page c xs) = f c ++ spotsRest f xs
+
+abbrev pub spots : {K : Type 0} → Shown K → (n b : ℕ) → List ℕ
+spots d zero b = []
+spots d (suc n) b = b ∷ spotsPage (spots d n) (d b)
+
+-- no number twice
+abbrev pub Once : List ℕ → Type 0
+Once [] = Unit {0}
+Once (x ∷ xs) = All (λ (y : ℕ). x ≡ y → ⊥) xs × Once xs
+
+-- below the root of a good stored tree no sector stands twice
+abbrev pub Good-apart : {K : Type 0} → (K → K → Cmp) → Type 0
+Good-apart {K} cmp = (d : Shown K) (n r : ℕ) → Good cmp (loaded d n r) → Once (spotsPage (spots d n) (d r))
+
+-- is x in a list?
+abbrev pub within : ℕ → List ℕ → Bool
+within x [] = false
+within x (y ∷ l) = eqb x y || within x l
+
+-- the list has the sectors where pages stand, and no others
+abbrev pub Spots-stand : Type 0 → Type 0
+Spots-stand K = (d : Shown K) (n r x : ℕ) → let l = spotsPage (spots d n) (d r) in ((j : ℕ) → Under-root d n r j x → within x l ≡ true) × (within x l ≡ true → (j : ℕ) × Under-root d n r j x)
+
+-- how many of a list are not in A
+abbrev pub missing : List ℕ → List ℕ → ℕ
+missing A [] = 0
+missing A (x ∷ xs) = cond (within x A) 0 1 + missing A xs
+
+-- how many sectors below the old root the new tree, of n′ levels below its root, uses no more
+abbrev pub setFree : {K : Type 0} → Shown K → (n r : ℕ) → Shown K → ℕ → ℕ
+setFree d n r d′ n′ = missing (spotsPage (spots d′ n′) (d′ r)) (spotsPage (spots d n) (d r))
+
+-- pages before and free sectors taken are as many as pages after and sectors set free
+abbrev pub Replace-balances : {K : Type 0} → (K → K → Cmp) → Type 0
+Replace-balances {K} cmp = (eq : K → K → Bool) → IsSame K eq → (free : ℕ → ℕ) (d : Shown K) (n r : ℕ) (u : Tree K) → u .over ≤ n → Good cmp (loaded d n r) → Good cmp u → let m = changed eq (loaded d n r) u in
+    Ready free d n r m → pages (loaded d n r) + m ≡ pages u + setFree d n r (replaced eq free d n r u .0) (u .over)
+
+-- so of a delete
+abbrev pub Delete-balances : {K : Type 0} → (K → K → Cmp) → Type 0
+Delete-balances {K} cmp = (eq : K → K → Bool) → IsSame K eq → (free : ℕ → ℕ) (d : Shown K) (n r : ℕ) (k : K) → Good cmp (loaded d n r) → let u = delete cmp (loaded d n r) k in
+    Ready free d n r (u .1) → pages (loaded d n r) + u .1 ≡ pages (u .0) + setFree d n r (replaced eq free d n r (u .0) .0) (u .0 .over)
+
+-- and of an insert that keeps to four levels, of a number that the name does not have yet
+abbrev pub Insert-balances : {K : Type 0} → (K → K → Cmp) → Type 0
+Insert-balances {K} cmp = (eq : K → K → Bool) → IsSame K eq → (free : ℕ → ℕ) (d : Shown K) (n r : ℕ) (k : K) (v : ℕ) → Good cmp (loaded d n r) → (lookup cmp (loaded d n r) k ≡ at v → ⊥) → let u = insert cmp (loaded d n r) k v in
+    levels (u .0) ≤ mostLevels → Ready free d n r (u .1) → pages (loaded d n r) + u .1 ≡ pages (u .0) + setFree d n r (insertStored cmp free d n r (k, v) .1) (u .0 .over)

@@ -1,7 +1,9 @@
 // The laws of the directory tree, for any order of names, each stated by the contract of a function.
 ghost use Rattle.tree.specs.Laws.{AnyOrder, Shares, Lookup-finds, Empty-good};
 ghost use Rattle.tree.specs.Stored.{AnyCompare, Seek-looks, Insert-stores, Replace-stores, Delete-stores};
+ghost use Rattle.tree.specs.Stored.{Spots-stand, Good-apart, Insert-frees, Replace-frees, Delete-frees, Insert-balances, Replace-balances, Delete-balances};
 ghost use Rattle.tree.specs.Examples.{Examples, Reached};
+ghost use Rattle.tree.specs.StoredExamples.{StoredExamples};
 ghost use Rattle.tree.specs.Laws.{Insert-puts, Insert-keeps, Insert-levels, Insert-within, Insert-rises, Insert-gains, Insert-path, Insert-six, Insert-changes, Insert-again};
 ghost use Rattle.tree.specs.Laws.{Delete-takes, Delete-keeps, Delete-loses, Delete-most, Delete-changes};
 
@@ -54,11 +56,20 @@ pub fn shares_stand<K, S>() -> u8
 }
 
 // A tree in sectors: search, and an insert and a delete that write the changed pages to free sectors and the root to its own.
+// The sectors set free are those of the old pages that the new tree has no more.
 pub fn stored_stands<K>() -> u8
     ensures seeks { λ _. ⌜ AnyCompare K Seek-looks ⌝ }
     ensures inserts { λ _. ⌜ AnyCompare K Insert-stores ⌝ }
     ensures replaces { λ _. ⌜ Replace-stores K ⌝ }
     ensures deletes { λ _. ⌜ AnyOrder K Delete-stores ⌝ }
+    ensures spots { λ _. ⌜ Spots-stand K ⌝ }
+    ensures apart { λ _. ⌜ AnyOrder K Good-apart ⌝ }
+    ensures insert_frees { λ _. ⌜ AnyOrder K Insert-frees ⌝ }
+    ensures replace_frees { λ _. ⌜ AnyOrder K Replace-frees ⌝ }
+    ensures delete_frees { λ _. ⌜ AnyOrder K Delete-frees ⌝ }
+    ensures insert_balances { λ _. ⌜ AnyOrder K Insert-balances ⌝ }
+    ensures replace_balances { λ _. ⌜ AnyOrder K Replace-balances ⌝ }
+    ensures delete_balances { λ _. ⌜ AnyOrder K Delete-balances ⌝ }
 {
     0
 }
@@ -67,6 +78,7 @@ pub fn stored_stands<K>() -> u8
 pub fn examples_stand() -> u8
     ensures worked { λ _. ⌜ Examples ⌝ }
     ensures reached { λ _. ⌜ Reached ⌝ }
+    ensures stored { λ _. ⌜ StoredExamples ⌝ }
 {
     0
 }
