@@ -1,2 +1,4 @@
 //! What a whole volume holds: its catalog, the questions put to its sectors, and their laws.
+#![tactic(auto)]
+
 pub mod fault;

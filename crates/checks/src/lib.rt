@@ -1,4 +1,5 @@
 //! Examples of piles and plans at work: each test is proved safe, and run.
+#![tactic(auto)]
 
 #[cfg(test)]
 mod piles;

@@ -1,4 +1,5 @@
 //! A disk of sectors: what it means, the rules that every disk keeps, and an end over lent bytes.
+#![tactic(auto)]
 
 ghost use Rattle.disk.specs.Meaning.{Meaning};
 ghost use Rattle.disk.specs.Rules.{Answer, Request, Sizes, Lives, Gets, Puts, Settles, Restarts};

@@ -1,4 +1,5 @@
 //! Lines of text in fields that commas part, and the numbers in them.
+#![tactic(auto)]
 
 ghost use Rattle.std.specs.Prelude.{◌≡◌, ◌≤◌, true, false, length, Some, None};
 ghost use Rattle.std.specs.Str.{bytes_eq};

@@ -1,4 +1,5 @@
 //! Tries a plan on every pile, with a power stop at every put, and prints what each left.
+#![tactic(auto)]
 
 mod pile;
 mod report;

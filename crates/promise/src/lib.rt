@@ -1,2 +1,4 @@
 //! What a store promises: the plain table that its calls follow, the ledger kept beside it, and what every start finds.
+#![tactic(auto)]
+
 pub mod fault;

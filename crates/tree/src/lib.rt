@@ -1,4 +1,6 @@
 // The laws of the directory tree, for any order of names, each stated by the contract of a function.
+#![tactic(auto)]
+
 ghost use Rattle.tree.specs.Laws.{AnyOrder, Shares, LookupFinds, EmptyGood};
 ghost use Rattle.tree.specs.Stored.{AnyCompare, SeekLooks, InsertStores, ReplaceStores, DeleteStores};
 ghost use Rattle.tree.specs.Stored.{SpotsStand, GoodApart, InsertFrees, ReplaceFrees, DeleteFrees, InsertBalances, ReplaceBalances, DeleteBalances};
