@@ -38,21 +38,21 @@ yes-number s n h k d e =
     let b = le-leb (length s) 7 k in
     simp (a, b, d, e)
 
-pub overflow-mul-n : goal.overflow-mul-n
-overflow-mul-n c = let s = small c.loop-i.i (omega arith) in omega arith
+pub overflow_mul-n : goal.overflow_mul-n
+overflow_mul-n c = let s = small c.loop-i.i (omega arith) in omega arith
 
-pub overflow-add-n : goal.overflow-add-n
-overflow-add-n c = let s = small c.loop-i.i (omega arith) in let l = low (get_or c.args.s.now c.loop-i.i 0) c.if-not-is-digit.ensures in omega arith
+pub overflow_add-n : goal.overflow_add-n
+overflow_add-n c = let s = small c.loop-i.i (omega arith) in let l = low (get_or c.args.s.now c.loop-i.i 0) c.if-not-is_digit.ensures in omega arith
 
-pub returns-then-not-is-digit : goal.returns-then-not-is-digit
-returns-then-not-is-digit c =
-    no_number c.args.s.now (c.loop-i.invariant.1 ∙ more c.args.s.now c.loop-i.i false c.loop-i-test.true c.if-not-is-digit.ensures)
+pub returns-then-not-is_digit : goal.returns-then-not-is_digit
+returns-then-not-is_digit c =
+    no_number c.args.s.now (c.loop-i.invariant.1 ∙ more c.args.s.now c.loop-i.i false c.loop-i-test.true c.if-not-is_digit.ensures)
 
 pub loop-i-preserved : goal.loop-i-preserved
 loop-i-preserved c = (
   c.loop-i.invariant.0 ∙ at_drop_more (value c.loop-i.n) c.args.s.now c.loop-i.i 0 c.loop-i-test.true,
-  c.loop-i.invariant.1 ∙ more c.args.s.now c.loop-i.i true c.loop-i-test.true c.if-not-is-digit.ensures,
-  let l = low (get_or c.args.s.now c.loop-i.i 0) c.if-not-is-digit.ensures in
+  c.loop-i.invariant.1 ∙ more c.args.s.now c.loop-i.i true c.loop-i-test.true c.if-not-is_digit.ensures,
+  let l = low (get_or c.args.s.now c.loop-i.i 0) c.if-not-is_digit.ensures in
       rw ten (omega arith),
 )
 

@@ -10,5 +10,5 @@ returns c =
     let n = length-take-le p.count p.entries (omega (arith, p.few, p.long)) in (
       (omega arith, omega arith),
       ap (λ (rs : List Entry). record { first = p.first; rows = rs })
-          (put_in p.entries p.count c.args.i c.copy-within.new.self c.args.entry c.args.entry (omega arith) (omega (arith, p.few, p.long)) c.copy-within.ensures.after),
+          (put_in p.entries p.count c.args.i c.copy_within.new.self c.args.entry c.args.entry (omega arith) (omega (arith, p.few, p.long)) c.copy_within.ensures.after),
     )

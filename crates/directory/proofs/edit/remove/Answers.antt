@@ -8,5 +8,5 @@ returns c =
     let p = c.args.page.now in (
       is_row p.entries p.count c.args.i _ (omega arith) (omega (arith, p.few, p.long)),
       ap (λ (rs : List Entry). record { first = p.first; rows = rs })
-          (take_out p.entries p.count c.args.i c.copy-within.new.self (omega arith) (omega (arith, p.few, p.long)) c.copy-within.ensures.after),
+          (take_out p.entries p.count c.args.i c.copy_within.new.self (omega arith) (omega (arith, p.few, p.long)) c.copy_within.ensures.after),
     )

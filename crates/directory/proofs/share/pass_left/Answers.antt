@@ -7,7 +7,7 @@ pub returns : goal.returns
 returns c =
     let l = c.args.left.now in
     let r = c.args.right.now in
-    let rows = c.append-2.ensures.rows ∙ ap₂ ◌++◌ (c.append.ensures.rows ∙ ap (λ (x : Entry). take l.count l.entries ++ x ∷ []) c.come-down-fallen.ensures) c.part.ensures.rows in
+    let rows = c.append-2.ensures.rows ∙ ap₂ ◌++◌ (c.append.ensures.rows ∙ ap (λ (x : Entry). take l.count l.entries ++ x ∷ []) c.come_down-fallen.ensures) c.part.ensures.rows in
     let rest = c.append-3.ensures.rows ∙ ap₂ (λ (j : ℕ) (xs : List Entry). take j c.new-rest.result.entries ++ xs) c.new-rest.ensures.1 c.part-2.ensures.rows in
     record {
       cut =

@@ -8,7 +8,7 @@ returns c =
     let l = c.args.left.now in
     let r = c.args.right.now in
     let some = c.append.ensures.rows ∙ ap₂ (λ (j : ℕ) (xs : List Entry). take j c.new-longer.result.entries ++ xs) c.new-longer.ensures.1 c.part.ensures.rows in
-    let more = c.append-2.ensures.rows ∙ ap₂ (λ (xs : List Entry) (x : Entry). xs ++ x ∷ []) some c.come-down-fallen.ensures in
+    let more = c.append-2.ensures.rows ∙ ap₂ (λ (xs : List Entry) (x : Entry). xs ++ x ∷ []) some c.come_down-fallen.ensures in
     let rest = c.append-3.ensures.rows ∙ ap₂ ◌++◌ more c.part-2.ensures.rows in
     let first = c.append-3.ensures.first ∙ c.append-2.ensures.first ∙ c.append.ensures.first ∙ c.new-longer.ensures.0 in
     record {

@@ -6,4 +6,4 @@ pub returns : goal.returns
 returns c =
     let e : c.args.at + 32 - c.args.at ≡ 32 = omega arith in
     let l : length c.args.name.now.bytes ≡ 32 = omega arith in
-    record { after = rw (e, c.copy-from-slice.ensures.after, l, drop-drop); long = l }
+    record { after = rw (e, c.copy_from_slice.ensures.after, l, drop-drop); long = l }

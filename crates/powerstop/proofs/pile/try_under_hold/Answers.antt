@@ -7,4 +7,4 @@ pub returns : goal.returns
 returns g c clean =
     let d = c.new-disk.result in
     let below = subst (λ b. Clean (g.D.Disk.meaning b)) (sym c.new-disk.ensures.below) clean in
-    c.try-disk.ensures.clean (clean-held (g.D.Disk.meaning d.below) _ c.new-disk.ensures.empty below)
+    c.try_disk.ensures.clean (clean-held (g.D.Disk.meaning d.below) _ c.new-disk.ensures.empty below)

@@ -9,7 +9,7 @@ use Rattle.trial.proofs.Judges.{or-none}
 use Rattle.trial.proofs.judge.allowed.Goals as goal
 
 pub loop-i-init : goal.loop-i-init
-loop-i-init c = let e = c.is-blank-blank.ensures ∙ sym (or-none _) in (e, e)
+loop-i-init c = let e = c.is_blank-blank.ensures ∙ sym (or-none _) in (e, e)
 
 pub loop-i-preserved : goal.loop-i-preserved
 loop-i-preserved c =

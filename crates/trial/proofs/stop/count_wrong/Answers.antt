@@ -6,20 +6,20 @@ use Rattle.trial.proofs.stop.count_wrong.Goals.{then-not-branch, else-not-branch
 pub loop-k-init : goal.loop-k-init
 loop-k-init g c = looked-none _ _ c.size-k-end.ensures.sound
 
-pub returns-in-err-look : goal.returns-in-err-look
-returns-in-err-look g c =
+pub returns-in_err-look : goal.returns-in_err-look
+returns-in_err-look g c =
     let e = c.size-k-end.ensures.is in
-    counts-err _ _ _ _ _ _ (omega arith) c.loop-k.invariant _ _ c.from-residual.ensures.1 c.in-err-look.ensures
+    counts-err _ _ _ _ _ _ (omega arith) c.loop-k.invariant _ _ c.from-residual.ensures.1 c.in_err-look.ensures
 
-pub overflow-add-wrong : goal.overflow-add-wrong
-overflow-add-wrong g c = record { fits = omega (arith, c.loop-k.invariant.few, c.size-k-end.type-inv) }
+pub overflow_add-wrong : goal.overflow_add-wrong
+overflow_add-wrong g c = record { fits = omega (arith, c.loop-k.invariant.few, c.size-k-end.type_inv) }
 
 pub loop-k-preserved : goal.loop-k-preserved
 loop-k-preserved g c =
     let e = c.size-k-end.ensures.is in
     let w = c.loop-k.wrong in
     let none : w ≡ w + 0 = omega arith in
-    looked-more _ _ _ _ _ _ (omega arith) c.loop-k.invariant c.in-ok-look.field-0 _ c.in-ok-look.ensures
+    looked-more _ _ _ _ _ _ (omega arith) c.loop-k.invariant c.in_ok-look.field-0 _ c.in_ok-look.ensures
     (elim c.if-not-branch.branch [
       | then-not-branch v ↦ v.wrong-is ∙ sym (ap (λ b. w + cond b 0 1) v.if-not-branch.true)
       | else-not-branch v ↦ v.wrong-is ∙ (none ∙ sym (ap (λ b. w + cond b 0 1) v.if-not-branch.false))

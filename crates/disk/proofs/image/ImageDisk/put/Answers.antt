@@ -11,7 +11,7 @@ returns-then-n-size c = record {
 
 pub returns : goal.returns
 returns c =
-    let w = c.write-sector.ensures in
+    let w = c.write_sector.ensures in
     record {
       rule = puts-over _ _ _ (omega (arith, c.size.ensures.is)) w.whole w.after;
       done = does-put _ _ _ (omega (arith, c.size.ensures.is)) w.whole w.after;

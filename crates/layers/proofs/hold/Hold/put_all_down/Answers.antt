@@ -11,23 +11,23 @@ pub loop-self-init : goal.loop-self-init
 loop-self-init g c =
     (spills-none _ (sound-held _ _ (all_whole c.args.self.now.table) c.requires.sound) c.requires.live, none)
 
-pub put-down-requires : goal.put-down-requires
-put-down-requires g c =
+pub put_down-requires : goal.put_down-requires
+put_down-requires g c =
     let ne = eqb-false (length (rows c.loop-self.self.table)) 0 (sym c.loop-self-test.ensures) in
     record { some = omega arith; live = c.loop-self.invariant.0.answer.1 }
 
 pub loop-self-smaller : goal.loop-self-smaller
-loop-self-smaller g c = c.in-ok-put-down.ensures.fewer
+loop-self-smaller g c = c.in_ok-put_down.ensures.fewer
 
 pub loop-self-preserved : goal.loop-self-preserved
 loop-self-preserved g c =
-    let h = c.in-ok-put-down.ensures in
+    let h = c.in_ok-put_down.ensures in
     (spills-more _ _ _ _ c.loop-self.invariant.0 h.rule, more c.loop-self.invariant.1 h.done)
 
-pub returns-in-err-put-down : goal.returns-in-err-put-down
-returns-in-err-put-down g c =
-    let h = c.in-err-put-down.ensures in
-    let e = err-is c.from-residual.result c.in-err-put-down.field-0.0 c.from-residual.ensures.1 in
+pub returns-in_err-put_down : goal.returns-in_err-put_down
+returns-in_err-put_down g c =
+    let h = c.in_err-put_down.ensures in
+    let e = err-is c.from-residual.result c.in_err-put_down.field-0.0 c.from-residual.ensures.1 in
     record {
       rule = spills-err _ _ _ _ _ e c.loop-self.invariant.0 h.rule;
       done = all-down-err _ g.D.Disk.does _ _ e c.loop-self.invariant.1 h.done;

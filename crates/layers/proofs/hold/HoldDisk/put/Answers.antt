@@ -35,19 +35,19 @@ returns-then-keep g c =
       done = reaches-alive _ _ _ (rows t) _ _ (rows u) _ (omega (arith, c.size.ensures.is)) live (keeps-room _ _ _ _ _ _ _ told);
     }
 
-pub put-down-requires : goal.put-down-requires
-put-down-requires g c =
+pub put_down-requires : goal.put_down-requires
+put_down-requires g c =
     let told = c.if-keep.ensures in
     let long = ap length told.2 ∙ told.1 in
     record { some = omega arith; live = sym c.if-not-live.ensures.is }
 
-pub returns-in-err-put-down : goal.returns-in-err-put-down
-returns-in-err-put-down g c =
+pub returns-in_err-put_down : goal.returns-in_err-put_down
+returns-in_err-put_down g c =
     let t = c.args.self.now.table in
     let told = c.if-keep.ensures in
-    let h = c.in-err-put-down.ensures in
+    let h = c.in_err-put_down.ensures in
     let live = sym c.if-not-live.ensures.is in
-    let e = err-is c.from-residual.result c.in-err-put-down.field-0.0 c.from-residual.ensures.1 in
+    let e = err-is c.from-residual.result c.in_err-put_down.field-0.0 c.from-residual.ensures.1 in
     let s = spills-from _ (at (rows t)) _ _ _ (λ k. ap (λ l. at l k) told.2) h.rule in
     record {
       rule = puts-err _ _ _ _ _ _ e (omega (arith, c.size.ensures.is)) s;
@@ -57,10 +57,10 @@ returns-in-err-put-down g c =
 pub returns : goal.returns
 returns g c =
     let t = c.args.self.now.table in
-    let v = c.put-down.new.self.table in
+    let v = c.put_down.new.self.table in
     let u = c.keep-2.new.self in
     let told = c.if-keep.ensures in
-    let h = c.in-ok-put-down.ensures in
+    let h = c.in_ok-put_down.ensures in
     let live = sym c.if-not-live.ensures.is in
     let s = spills-from _ (at (rows t)) _ _ _ (λ k. ap (λ l. at l k) told.2) h.rule in
     let long = ap length told.2 ∙ told.1 in

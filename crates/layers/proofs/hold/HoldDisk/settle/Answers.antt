@@ -16,11 +16,11 @@ returns-then-not-live g c =
       done = settling-dead _ _ _ (rows t) _ _ dead c.gone.ensures;
     }
 
-pub returns-in-err-put-all-down : goal.returns-in-err-put-all-down
-returns-in-err-put-all-down g c =
-    let h = c.in-err-put-all-down.ensures in
+pub returns-in_err-put_all_down : goal.returns-in_err-put_all_down
+returns-in_err-put_all_down g c =
+    let h = c.in_err-put_all_down.ensures in
     let live = sym c.if-not-live.ensures.is in
-    let e = err-is c.from-residual.result c.in-err-put-all-down.field-0.0 c.from-residual.ensures.1 in
+    let e = err-is c.from-residual.result c.in_err-put_all_down.field-0.0 c.from-residual.ensures.1 in
     let a = h.done in
     record {
       rule = settles-err _ _ _ _ e h.rule;
@@ -29,10 +29,10 @@ returns-in-err-put-all-down g c =
 
 pub returns : goal.returns
 returns g c =
-    let h = c.in-ok-put-all-down.ensures in
+    let h = c.in_ok-put_all_down.ensures in
     let live = sym c.if-not-live.ensures.is in
-    let u = c.put-all-down.new.self.table in
+    let u = c.put_all_down.new.self.table in
     record {
       rule = settles-below (at (rows u)) (nothing-at (rows u) h.done.1) _ _ _ _ h.rule c.settle.ensures.rule;
-      done = settling-alive _ _ _ _ _ _ _ _ live (inl (c.put-all-down.new.self.below, h.done.0, h.done.1, c.settle.ensures.done));
+      done = settling-alive _ _ _ _ _ _ _ _ live (inl (c.put_all_down.new.self.below, h.done.0, h.done.1, c.settle.ensures.done));
     }

@@ -3,8 +3,8 @@ use Rattle.std.proofs.lemmas.List.{length-take-le}
 use Rattle.layers.proofs.Rows.{copied, missing, kept_in, count-in, tidy-in, kept-end, count-end, tidy-end}
 use Rattle.layers.proofs.table.Table.keep.Goals as goal
 
-pub invariant-of-self : goal.invariant-of-self
-invariant-of-self c =
+pub invariant_of-self : goal.invariant_of-self
+invariant_of-self c =
     let t = c.args.self.now in (
       omega arith,
       (
@@ -23,8 +23,8 @@ returns-then-i-self c =
       inl (ap is_some (copied t.slots t.count (omega arith) c.args.n c.place-i.result c.place-i.ensures c.if-i-self.true)),
     )
 
-pub invariant-of-self-then-i-lt16 : goal.invariant-of-self-then-i-lt16
-invariant-of-self-then-i-lt16 c =
+pub invariant_of-self-then-i-lt16 : goal.invariant_of-self-then-i-lt16
+invariant_of-self-then-i-lt16 c =
     let t = c.args.self.now in
     let w = c.place-i.ensures.within in
     let is : c.place-i.result ≡ t.count = omega (arith, simp length-take at w) in (

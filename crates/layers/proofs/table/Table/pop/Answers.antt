@@ -3,13 +3,13 @@ use Rattle.layers.specs.Rows.{tidy}
 use Rattle.layers.proofs.Rows.{tidy-popped, take-popped}
 use Rattle.layers.proofs.table.Table.pop.Goals as goal
 
-pub invariant-of-self : goal.invariant-of-self
-invariant-of-self c =
+pub invariant_of-self : goal.invariant_of-self
+invariant_of-self c =
     let t = c.args.self.now in
-    let is = c.saturating-sub-self.ensures in
+    let is = c.saturating_sub-self.ensures in
     (omega arith, (t.long, (ap (λ j. tidy (take j t.slots)) is ∙ tidy-popped t.slots t.count (omega arith) t.neat, tt)))
 
 pub returns : goal.returns
 returns c =
     let t = c.args.self.now in
-    ap (λ j. take j t.slots) c.saturating-sub-self.ensures ∙ take-popped t.slots t.count (omega arith)
+    ap (λ j. take j t.slots) c.saturating_sub-self.ensures ∙ take-popped t.slots t.count (omega arith)

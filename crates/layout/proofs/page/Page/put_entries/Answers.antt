@@ -11,8 +11,8 @@ loop-i-init c = (sym (written_none c.args.sector.now entries_at), refl)
 
 pub loop-i-preserved : goal.loop-i-preserved
 loop-i-preserved c =
-    put-entry-more c.args.sector.now c.loop-i.sector c.put-entry.new.sector c.args.self.now.entries c.loop-i.i _ (omega arith) (get_or_default c.args.self.now.entries c.loop-i.i _ _ (omega arith)) (omega arith)
-    c.put-entry.ensures.long c.put-entry.ensures.after c.loop-i.invariant
+    put-entry-more c.args.sector.now c.loop-i.sector c.put_entry.new.sector c.args.self.now.entries c.loop-i.i _ (omega arith) (get_or_default c.args.self.now.entries c.loop-i.i _ _ (omega arith)) (omega arith)
+    c.put_entry.ensures.long c.put_entry.ensures.after c.loop-i.invariant
 
 pub returns : goal.returns
 returns c =

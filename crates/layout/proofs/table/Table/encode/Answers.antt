@@ -11,4 +11,4 @@ returns c =
     let l : length c.args.self.now.sectors ≡ 256 = omega arith in
     let n : length (stored_all (numbers c.args.self.now.sectors)) ≡ 1024 =
     omega (arith, l, length-map c.args.self.now.sectors (λ (a : Address). a.0), length-stored_all (numbers c.args.self.now.sectors)) in
-    c.put-addresses.ensures ∙ written_all _ (stored_all (numbers c.args.self.now.sectors)) n
+    c.put_addresses.ensures ∙ written_all _ (stored_all (numbers c.args.self.now.sectors)) n
