@@ -9,7 +9,7 @@ loop-k-init g c = looked-none _ _ c.size-k-end.ensures.sound
 pub returns-in_err-look : goal.returns-in_err-look
 returns-in_err-look g c =
     let e = c.size-k-end.ensures.is in
-    counts-err _ _ _ _ _ _ (omega arith) c.loop-k.invariant _ _ c.from-residual.ensures.1 c.in_err-look.ensures
+    counts-err _ _ _ _ _ _ (omega arith) c.loop-k.invariant _ _ c.from_residual.ensures.1 c.in_err-look.ensures
 
 pub overflow_add-wrong : goal.overflow_add-wrong
 overflow_add-wrong g c = record { fits = omega (arith, c.loop-k.invariant.few, c.size-k-end.type_inv) }

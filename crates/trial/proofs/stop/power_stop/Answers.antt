@@ -6,13 +6,13 @@ pub returns-in_err-restart : goal.returns-in_err-restart
 returns-in_err-restart g c =
     let h = c.in_err-restart.ensures in
     lost-restart _ g.D.Disk.meaning g.D.Disk.does _ _ _ c.args.disk.now c.args.steps.now c.args.steps.now _ c.in_err-restart.field-0.0
-    _ c.from-residual.ensures.1 c.run-ending.ensures.done h.done h.rule
+    _ c.from_residual.ensures.1 c.run-ending.ensures.done h.done h.rule
 
 pub returns-in_err-wrong : goal.returns-in_err-wrong
 returns-in_err-wrong g c =
     let h = c.in_ok-restart.ensures in
     lost-look _ g.D.Disk.meaning g.D.Disk.does _ _ _ _ c.args.steps.now _ _ c.in_err-wrong.field-0.0
-    _ c.from-residual-in_err-wrong.ensures.1 c.run-ending.ensures.done h.done h.rule c.in_err-wrong.ensures
+    _ c.from_residual-in_err-wrong.ensures.1 c.run-ending.ensures.done h.done h.rule c.in_err-wrong.ensures
 
 pub returns : goal.returns
 returns g c =

@@ -27,7 +27,7 @@ loop-self-preserved g c =
 pub returns-in_err-put_down : goal.returns-in_err-put_down
 returns-in_err-put_down g c =
     let h = c.in_err-put_down.ensures in
-    let e = err-is c.from-residual.result c.in_err-put_down.field-0.0 c.from-residual.ensures.1 in
+    let e = err-is c.from_residual.result c.in_err-put_down.field-0.0 c.from_residual.ensures.1 in
     record {
       rule = spills-err _ _ _ _ _ e c.loop-self.invariant.0 h.rule;
       done = all-down-err _ g.D.Disk.does _ _ e c.loop-self.invariant.1 h.done;

@@ -47,7 +47,7 @@ returns-in_err-put_down g c =
     let told = c.if-keep.ensures in
     let h = c.in_err-put_down.ensures in
     let live = sym c.if-not-live.ensures.is in
-    let e = err-is c.from-residual.result c.in_err-put_down.field-0.0 c.from-residual.ensures.1 in
+    let e = err-is c.from_residual.result c.in_err-put_down.field-0.0 c.from_residual.ensures.1 in
     let s = spills-from _ (at (rows t)) _ _ _ (λ k. ap (λ l. at l k) told.2) h.rule in
     record {
       rule = puts-err _ _ _ _ _ _ e (omega (arith, c.size.ensures.is)) s;

@@ -20,7 +20,7 @@ pub returns-in_err-put_all_down : goal.returns-in_err-put_all_down
 returns-in_err-put_all_down g c =
     let h = c.in_err-put_all_down.ensures in
     let live = sym c.if-not-live.ensures.is in
-    let e = err-is c.from-residual.result c.in_err-put_all_down.field-0.0 c.from-residual.ensures.1 in
+    let e = err-is c.from_residual.result c.in_err-put_all_down.field-0.0 c.from_residual.ensures.1 in
     let a = h.done in
     record {
       rule = settles-err _ _ _ _ e h.rule;

@@ -18,7 +18,7 @@ loop-i-init c =
 
 pub returns-in_err-entry : goal.returns-in_err-entry
 returns-in_err-entry c =
-    let p = err_from_is_err_and c.from-residual.result c.from-residual.ensures.1 in
+    let p = err_from_is_err_and c.from_residual.result c.from_residual.ensures.1 in
     rw (p.1, p.2)
     (row-refused c.args.size c.args.leaf c.args.sector.now c.args.count c.loop-i.i (omega arith) _ _ _ (c.in_err-entry.ensures ∙ ap (check_entry c.args.size c.args.leaf) c.get_entry.ensures) c.loop-i.invariant.0)
 

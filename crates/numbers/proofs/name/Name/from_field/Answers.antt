@@ -5,7 +5,7 @@ use Rattle.numbers.proofs.Naming.{front-is, no_name, is_field, no_field}
 use Rattle.numbers.proofs.name.Name.from_field.Goals as goal
 
 pub returns-in_err-name : goal.returns-in_err-name
-returns-in_err-name c = rw c.from-residual.ensures (no_name c.args.field _ (front-is c.args.field _ c.text_len.ensures.0) c.in_err-name.ensures)
+returns-in_err-name c = rw c.from_residual.ensures (no_name c.args.field _ (front-is c.args.field _ c.text_len.ensures.0) c.in_err-name.ensures)
 
 pub returns-then-eq : goal.returns-then-eq
 returns-then-eq c =
