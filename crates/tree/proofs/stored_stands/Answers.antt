@@ -15,10 +15,10 @@ returns g c = record {
   deletes = delete-stores;
   spots = spots-stand _;
   apart = good-apart;
-  insert-frees = insert-frees;
-  replace-frees = replace-frees;
-  delete-frees = delete-frees;
-  insert-balances = insert-balances;
-  replace-balances = replace-balances;
-  delete-balances = delete-balances;
+  insert_frees = insert-frees;
+  replace_frees = replace-frees;
+  delete_frees = delete-frees;
+  insert_balances = insert-balances;
+  replace_balances = replace-balances;
+  delete_balances = delete-balances;
 }

@@ -5,13 +5,12 @@ use Rattle.layers.proofs.table.Table.keep.Goals as goal
 
 pub invariant_of-self : goal.invariant_of-self
 invariant_of-self c =
-    let t = c.args.self.now in (
-      omega arith,
-      (
-        simp length-set (omega arith),
-        (tidy-in t.slots t.count (omega arith) _ c.args.n c.place-i.result c.place-i.ensures refl c.if-i-self.true (record { long = c.told-bytes; bytes = c.fits-bytes }) t.neat, tt),
-      ),
-    )
+    let t = c.args.self.now in
+    record {
+      small = omega arith;
+      long = simp length-set (omega arith);
+      neat = tidy-in t.slots t.count (omega arith) _ c.args.n c.place-i.result c.place-i.ensures refl c.if-i-self.true (record { long = c.told-bytes; bytes = c.fits-bytes }) t.neat;
+    }
 
 pub returns-then-i-self : goal.returns-then-i-self
 returns-then-i-self c =
@@ -27,13 +26,12 @@ pub invariant_of-self-then-i-lt16 : goal.invariant_of-self-then-i-lt16
 invariant_of-self-then-i-lt16 c =
     let t = c.args.self.now in
     let w = c.place-i.ensures.within in
-    let is : c.place-i.result ≡ t.count = omega (arith, simp length-take at w) in (
-      omega arith,
-      (
-        simp length-set (omega arith),
-        (tidy-end t.slots t.count (omega arith) _ c.args.n c.place-i.result c.place-i.ensures refl is (omega arith) (record { long = c.told-bytes; bytes = c.fits-bytes }) t.neat, tt),
-      ),
-    )
+    let is : c.place-i.result ≡ t.count = omega (arith, simp length-take at w) in
+    record {
+      small = omega arith;
+      long = simp length-set (omega arith);
+      neat = tidy-end t.slots t.count (omega arith) _ c.args.n c.place-i.result c.place-i.ensures refl is (omega arith) (record { long = c.told-bytes; bytes = c.fits-bytes }) t.neat;
+    }
 
 pub returns-then-i-lt16 : goal.returns-then-i-lt16
 returns-then-i-lt16 c =

@@ -7,7 +7,11 @@ pub invariant_of-self : goal.invariant_of-self
 invariant_of-self c =
     let t = c.args.self.now in
     let is = c.saturating_sub-self.ensures in
-    (omega arith, (t.long, (ap (λ j. tidy (take j t.slots)) is ∙ tidy-popped t.slots t.count (omega arith) t.neat, tt)))
+    record {
+      small = omega arith;
+      long = t.long;
+      neat = ap (λ j. tidy (take j t.slots)) is ∙ tidy-popped t.slots t.count (omega arith) t.neat;
+    }
 
 pub returns : goal.returns
 returns c =
