@@ -10,7 +10,10 @@ invariant_of-page c =
     let p = c.args.page.now in
     let more = c.args.more.now in
     let is = put_mid-paste p.count (p.count + length more - p.count) p.entries c.copy_from_slice.new.self more (length more) c.copy_from_slice.ensures.after (omega arith) refl in
-    (omega arith, (ap length is ∙ length-paste p.entries p.count more (length more) (omega (arith, p.few, p.long)) (omega arith) ∙ p.long, tt))
+    record {
+      few = omega arith;
+      long = ap length is ∙ length-paste p.entries p.count more (length more) (omega (arith, p.few, p.long)) (omega arith) ∙ p.long;
+    }
 
 pub returns : goal.returns
 returns c =

@@ -4,8 +4,8 @@ use Rattle.directory.specs.Lines.{over}
 use Rattle.directory.proofs.Sharing.{long-line, join-pages}
 use Rattle.directory.proofs.share.join.Goals as goal
 
-pub returns-then-left-right-ge-MOST-STORED : goal.returns-then-left-right-ge-MOST-STORED
-returns-then-left-right-ge-MOST-STORED c =
+pub returns-then-left-right-ge-MOST_STORED : goal.returns-then-left-right-ge-MOST_STORED
+returns-then-left-right-ge-MOST_STORED c =
     let l = c.args.left.now in
     let r = c.args.right.now in
     let n = long-line l.entries r.entries l.count r.count (over c.args.middle r.first) (omega (arith, l.few, l.long)) (omega (arith, r.few, r.long)) in

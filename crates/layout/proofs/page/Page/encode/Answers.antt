@@ -5,8 +5,8 @@ use Rattle.layout.specs.Entries.{all_entry_bytes}
 use Rattle.layout.proofs.Paging.{page-written}
 use Rattle.layout.proofs.page.Page.encode.Goals as goal
 
-pub returns-then-self-gt-MOST-ENTRIES : goal.returns-then-self-gt-MOST-ENTRIES
-returns-then-self-gt-MOST-ENTRIES c = omega (arith, length-take-le c.args.self.now.count c.args.self.now.entries (omega (arith, c.args.self.now.few, c.args.self.now.long)))
+pub returns-then-self-gt-MOST_ENTRIES : goal.returns-then-self-gt-MOST_ENTRIES
+returns-then-self-gt-MOST_ENTRIES c = omega (arith, length-take-le c.args.self.now.count c.args.self.now.entries (omega (arith, c.args.self.now.few, c.args.self.now.long)))
 
 pub returns : goal.returns
 unfolding blank
