@@ -39,8 +39,7 @@ fn read_plan(rt: &HostRuntime) -> anyhow::Result<Plan> {
         };
         if let Err(fault) = plan.read(line.as_slice()) {
             let message = fault.message();
-            let text = format!(in rt.alloc(); "line {number}: {message}")?;
-            return Err(text.into());
+            return Err(anyhow!("line {number}: {message}"));
         }
     }
     Ok(plan)
