@@ -19,8 +19,8 @@ module _ (es : List Entry) (n i : ℕ) where
   pub next_row : (d : Entry) → i < n → n ≤ length es → drop i (take n es) ≡ get_or es i d ∷ drop (i + 1) (take n es)
   next_row d l m = drop_more (take n es) i d (omega (arith, length-take-le n es m)) ∙ ap (λ (x : Entry). x ∷ drop (i + 1) (take n es)) (get_or-take n es i d l)
 
-  pub put_in : (t : List Entry) (e d : Entry) → i ≤ n → n < length es → t ≡ paste es (i + 1) (drop i es) (n - i) → take (n + 1) (set t i e) ≡ insert (take n es) i e
-  put_in t e d l m h =
+  pub put_in_lem : (t : List Entry) (e d : Entry) → i ≤ n → n < length es → t ≡ paste es (i + 1) (drop i es) (n - i) → take (n + 1) (set t i e) ≡ insert (take n es) i e
+  put_in_lem t e d l m h =
       let k : n + 1 ≡ i + 1 + (n - i) = omega arith in
       let f : take (n + 1) t ≡ take i es ++ get_or es i d ∷ take (n - i) (drop i es) =
       ap₂ take k h ∙ take-paste es (i + 1) (drop i es) (n - i) (omega arith) (omega (arith, length-drop i es)) ∙ ap (λ (xs : List Entry). xs ++ take (n - i) (drop i es)) (take_more es i d (omega arith))
