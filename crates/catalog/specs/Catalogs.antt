@@ -1,5 +1,5 @@
 -- What a volume holds: the directory with the sector of each page, and each file with its sectors.
-use Rattle.std.specs.Prelude.{◌≡◌, ℕ, zero, suc, ◌+◌, ◌-◌, ◌<◌, ◌≤◌, Bool, true, false, cond, ◌||◌, List, [], ◌∷◌, ◌++◌, map, length, ◌==◌, slice_index}
+use Rattle.std.specs.Prelude.{◌≡◌, ℕ, zero, suc, ◌+◌, ◌-◌, ◌<◌, ◌≤◌, Bool, false, cond, ◌||◌, List, [], ◌∷◌, ◌++◌, map, length, ◌==◌, slice_index}
 use Rattle.numbers.specs.Names.{Key}
 use Rattle.numbers.specs.Lengths.{place}
 use Rattle.tree.specs.Tree.{Entry, Item, item, Page, page, Sub, Tree, to_list}

@@ -1,6 +1,6 @@
 -- The questions put to the contents of a disk's sectors, in their order: the first no is the answer, with the sector that held what was
 -- asked.
-use Rattle.std.specs.Prelude.{◌≡◌, ℕ, zero, suc, ◌+◌, ◌-◌, ◌*◌, ◌/◌, ◌%◌, ◌<◌, ◌≤◌, Bool, true, false, cond, not, ◌&&◌, ◌||◌, List, [], ◌∷◌, ◌++◌, map, length, Ok, Err, Result, ◌==◌, nat_eq, nat_le, nat_lt}
+use Rattle.std.specs.Prelude.{ℕ, zero, suc, ◌+◌, ◌-◌, ◌*◌, ◌/◌, ◌%◌, Bool, true, false, cond, not, ◌&&◌, ◌||◌, List, [], ◌∷◌, map, Ok, Err, Result, ◌==◌, nat_eq, nat_le, nat_lt}
 use Rattle.numbers.specs.declared.sector.Sector.{Sector}
 use Rattle.numbers.specs.Names.{Key, name_size, every, name_in, is_name_field}
 use Rattle.numbers.specs.Order.{Cmp, below, same, above, cmp}
@@ -11,7 +11,7 @@ use Rattle.layout.specs.declared.entry.PageKind.TheVariants.{Root, Other}
 use Rattle.layout.specs.Words.{word_size, word, part}
 use Rattle.layout.specs.Entries.{page_mark, page_mark_at, count_at, first_at, zeros_at, entries_at, entry_at, file_at, below_at, count_fits}
 use Rattle.layout.specs.Headers.{file_mark, mark_at, last_at, used_at, tables_at, near_at}
-use Rattle.tree.specs.Tree.{Entry, Item, item, Page, page, most_levels, flat}
+use Rattle.tree.specs.Tree.{Entry, item, page, most_levels, flat}
 use Rattle.disk.specs.Meaning.{Contents}
 use Rattle.catalog.specs.declared.fault.LayoutFault.{LayoutFault}
 use Rattle.catalog.specs.declared.fault.LayoutFault.TheVariants.{BadSize, BadMark, BadCount, BadAddress, MetBefore, BadLevel, BadEntry, BadLength}

@@ -1,14 +1,14 @@
 -- Page editing is what the tree does to a page.
-use Rattle.std.proofs.Common.{◌≡◌, ℕ, zero, suc, ◌+◌, ◌<◌, ◌≤◌, Bool, true, false, cond, leb, List, [], ◌∷◌, ◌++◌, length, take, drop, Option, sym, refl, ap, ◌∙◌, ap₂, arith}
+use Rattle.std.proofs.Common.{◌≡◌, ℕ, zero, suc, Bool, cond, List, [], ◌∷◌, ◌++◌, length, take, drop, Option, sym, refl, ap, ◌∙◌, ap₂, arith}
 use Rattle.std.proofs.lemmas.Bool.{le-leb, lt-leb}
 use Rattle.numbers.specs.Names.{Key}
 use Rattle.numbers.specs.declared.sector.Sector.{Sector}
 use Rattle.layout.specs.declared.entry.Entry.{Entry}
 use Rattle.layout.specs.Pages.{PageData}
 use Rattle.tree.specs.Tree as tree
-use Rattle.tree.specs.Insert.{Up, one, two, halves, cut, fit}
-use Rattle.tree.specs.Delete.{even, share}
-use Rattle.directory.specs.Lines.{over, line, joined, Cut, Shared}
+use Rattle.tree.specs.Insert.{one, two, halves, cut}
+use Rattle.tree.specs.Delete.{share}
+use Rattle.directory.specs.Lines.{over, line, Cut}
 use Rattle.directory.specs.Trees.{pair, items, tree_page, TreeLaws}
 
 abbrev Items : Type 0

@@ -1,10 +1,10 @@
 -- Sectors in a list of bytes: what `sector` reads and `written` writes.
-use Rattle.std.proofs.Common.{◌≡◌, ℕ, zero, suc, ◌+◌, ◌-◌, ◌*◌, ◌/◌, ◌%◌, ◌<◌, ◌≤◌, ◌⊎◌, List, [], ◌∷◌, ◌++◌, map, length, get_or, take, drop, sym, refl, ap, ◌∙◌, inl, inr, ⊎_elim, mod-lt, mod-eq_of_lt, arith, lit<, length-append, length-drop, length-take, rules}
+use Rattle.std.proofs.Common.{◌≡◌, ℕ, zero, suc, ◌+◌, ◌*◌, ◌/◌, ◌%◌, ◌<◌, ◌≤◌, ◌⊎◌, List, [], ◌∷◌, ◌++◌, map, length, get_or, take, drop, sym, refl, ap, ◌∙◌, ⊎_elim, mod-lt, mod-eq_of_lt, arith, lit<, length-append, length-drop, length-take}
 use borrow.Rule.Slice.PartMut.{put_mid}
 use lib.ListN.{length-map}
-use Rattle.std.proofs.lemmas.List.{places, drop_at, take_at, drop-take, drop-drop}
+use Rattle.std.proofs.lemmas.List.{drop_at, take_at, drop-take, drop-drop}
 use Rattle.std.proofs.lemmas.Slice.{take-put_mid_below, drop-put_mid}
-use Rattle.disk.specs.Meaning.{Contents, Whole}
+use Rattle.disk.specs.Meaning.{Whole}
 use Rattle.disk.specs.Sectors.{count, sector, written}
 
 -- a byte is its own remainder

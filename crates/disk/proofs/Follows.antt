@@ -1,11 +1,11 @@
 -- What follows from the rules for any disk.
-use Rattle.std.proofs.Common.{◌≡◌, ℕ, ◌<◌, ◌≤◌, Bool, true, false, Ok, Err, sym, refl, ap, subst, arith}
+use Rattle.std.proofs.Common.{◌≡◌, ℕ, ◌<◌, ◌≤◌, false, Ok, Err, sym, refl, subst, arith}
 use Rattle.std.proofs.lemmas.Bool.{both_ways}
 use Rattle.disk.specs.declared.fault.Cause.{Cause}
 use Rattle.disk.specs.declared.fault.Cause.TheVariants.{Outside, Gone}
 use Rattle.disk.specs.declared.fault.DiskFault.{DiskFault}
 use Rattle.disk.specs.Meaning.{Contents, Meaning, In}
-use Rattle.disk.specs.Rules.{Answer, Gets, GetAnswers, Puts, PutAnswers, Settles, SettleAnswers, Refuses, Stops}
+use Rattle.disk.specs.Rules.{Answer, GetAnswers, Puts, PutAnswers, SettleAnswers, Refuses, Stops}
 use Rattle.disk.specs.Laws.{Says, Follows}
 
 beyond : (c : Cause) (m m' : Meaning) (n : ℕ) (f : DiskFault) → Refuses c m n f m' → m.size ≤ n → c ≡ Outside

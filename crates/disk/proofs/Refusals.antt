@@ -1,5 +1,5 @@
 -- A disk that answers a call by itself and changes nothing keeps the rules.
-use Rattle.std.proofs.Common.{◌≡◌, ℕ, ◌<◌, ◌≤◌, Bool, true, false, Err, sym, refl, subst, inl, arith}
+use Rattle.std.proofs.Common.{◌≡◌, ℕ, ◌<◌, ◌≤◌, false, Err, sym, refl, subst, inl, arith}
 use Rattle.std.proofs.lemmas.Bool.{both_ways}
 use Rattle.disk.specs.declared.fault.Layer.{Layer}
 use Rattle.disk.specs.declared.fault.DiskFault.{DiskFault}

@@ -4,7 +4,7 @@ use Rattle.disk.specs.declared.fault.Cause.{Cause}
 use Rattle.disk.specs.declared.fault.Cause.TheVariants.{Outside, Gone}
 use Rattle.disk.specs.declared.fault.DiskFault.{DiskFault}
 use Rattle.disk.specs.Meaning.{Contents, Meaning, In}
-use Rattle.disk.specs.Rules.{Answer, Gets, Puts, Settles, Restarts}
+use Rattle.disk.specs.Rules.{Answer, Gets, Puts, Settles}
 
 -- the answer is a refusal of this cause
 abbrev pub Says : Cause → Answer → Type 0

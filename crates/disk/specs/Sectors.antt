@@ -1,7 +1,6 @@
 -- A disk that lies whole in bytes.
 use Rattle.std.specs.Prelude.{◌≡◌, ℕ, ◌+◌, ◌*◌, ◌/◌, ◌%◌, true, cond, List, [], ◌∷◌, ◌++◌, map, length, take, drop, Ok, Err, nat_lt}
-use Rattle.disk.specs.declared.fault.Cause.{Cause}
-use Rattle.disk.specs.declared.fault.Cause.TheVariants.{Outside, Gone}
+use Rattle.disk.specs.declared.fault.Cause.TheVariants.{Outside}
 use Rattle.disk.specs.declared.fault.Layer.TheVariants.{Image as is_image}
 use Rattle.disk.specs.Faults.{outside}
 use Rattle.disk.specs.Meaning.{Contents, Meaning}

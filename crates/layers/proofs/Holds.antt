@@ -1,11 +1,11 @@
 -- A hold keeps the rules of a disk. `kept` tells what it keeps of each sector; how that is stored does not matter here.
-use Rattle.std.proofs.Common.{◌≡◌, ℕ, ◌+◌, ◌<◌, ◌≤◌, Bool, true, false, cond, eqb, ◌⊎◌, List, [], ◌∷◌, Some, None, Ok, Err, Option, sym, refl, ap, ◌∙◌, subst, inl, inr, ⊎_elim, arith}
-use Rattle.std.proofs.lemmas.Bool.{eq-eqb, ne_eqb, cases_eq, both_ways}
+use Rattle.std.proofs.Common.{◌≡◌, ℕ, ◌<◌, true, cond, eqb, ◌⊎◌, List, Some, None, Ok, Err, Option, sym, refl, ap, ◌∙◌, subst, inl, inr, ⊎_elim, arith}
+use Rattle.std.proofs.lemmas.Bool.{eq-eqb, ne_eqb, cases_eq}
 use Rattle.disk.specs.declared.fault.Cause.{Cause}
 use Rattle.disk.specs.declared.fault.Cause.TheVariants.{Outside, Gone}
 use Rattle.disk.specs.declared.fault.DiskFault.{DiskFault}
 use Rattle.disk.specs.Meaning.{Contents, Whole, Meaning, In, Sound}
-use Rattle.disk.specs.Rules.{Answer, Settled, Refuses, Stops, GetAnswers, Gets, PutAnswers, Puts, SettleAnswers, Settles, RestartAnswers, Restarts}
+use Rattle.disk.specs.Rules.{Answer, Settled, Refuses, Stops, GetAnswers, Gets, Puts, SettleAnswers, Settles, RestartAnswers, Restarts}
 use Rattle.layers.specs.Holding.{held, kept_or, and_kept, Spills, SpillAnswers}
 
 abbrev pub Keeper : Type 0

@@ -1,11 +1,11 @@
-use Rattle.std.proofs.Common.{◌≡◌, ℕ, zero, suc, ◌+◌, ◌-◌, ◌<◌, ◌≤◌, Bool, true, false, cond, ◌&&◌, eqb, ltb, ◌⊎◌, List, [], ◌∷◌, ◌++◌, length, get_or, take, drop, set, is_some, Some, None, Option, sym, refl, ap, ◌∙◌, subst, inl, inr, ⊎_elim, add-one, arith, lit<, length-append, drop-cons, rules}
+use Rattle.std.proofs.Common.{◌≡◌, ℕ, zero, suc, ◌+◌, ◌-◌, ◌<◌, ◌≤◌, Bool, true, false, cond, ◌&&◌, eqb, ltb, List, [], ◌∷◌, ◌++◌, length, get_or, take, drop, set, is_some, Some, None, Option, sym, refl, ap, ◌∙◌, subst, ⊎_elim, add-one, arith, lit<, length-append, drop-cons}
 use Rattle.std.proofs.lemmas.Bool.{eq-eqb, ne_eqb, eqb-true, cases_eq, both_ways, and_parts, and_from, lt-ltb, ltb-true}
-use Rattle.std.proofs.lemmas.List.{take_more, take_more_set, take-take, take_all, get_or-take, drop_more, take-append-drop, set_split, length-take-le, length-set, append-nil}
+use Rattle.std.proofs.lemmas.List.{take_more, take_more_set, take-take, take_all, get_or-take, take-append-drop, set_split, length-take-le, length-set, append-nil}
 use lib.Seq.{take-set-lt}
 use lib.Pow.{are_bytes}
 use Rattle.layers.specs.declared.kept.Kept.{Kept}
 use Rattle.disk.specs.Meaning.{Contents, Whole}
-use Rattle.layers.specs.Rows.{at, tidy, blank, Place, With, Without}
+use Rattle.layers.specs.Rows.{at, tidy, blank, Place, Without}
 
 abbrev pub first : {X : Type 0} → Option X → Option X → Option X
 first (Some x) o = Some x

@@ -1,5 +1,5 @@
 -- What a fuse means and does.
-use Rattle.std.specs.Prelude.{◌≡◌, ℕ, zero, suc, ◌<◌, ◌≤◌, Bool, true, false, Ok, Err}
+use Rattle.std.specs.Prelude.{◌≡◌, ℕ, zero, suc, ◌<◌, ◌≤◌, Bool, false, Ok, Err}
 use Rattle.disk.specs.declared.fault.Layer.TheVariants.{Fuse as is_fuse}
 use Rattle.disk.specs.Faults.{outside, gone}
 use Rattle.disk.specs.Meaning.{Contents, Meaning}

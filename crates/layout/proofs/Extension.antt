@@ -1,9 +1,8 @@
 -- Extension tables.
-use Rattle.std.proofs.Common.{◌≡◌, ℕ, ◌+◌, ◌-◌, ◌*◌, ◌/◌, ◌%◌, ◌^◌, ◌<◌, ◌≤◌, ltb, List, [], ◌∷◌, ◌++◌, length, drop, sym, refl, ap, ◌∙◌, subst, append-nil, arith}
+use Rattle.std.proofs.Common.{◌≡◌, ℕ, ◌+◌, ◌-◌, ◌*◌, ◌/◌, ◌^◌, ◌<◌, ◌≤◌, ltb, List, [], ◌++◌, length, sym, refl, ap, ◌∙◌, subst, append-nil, arith}
 use Rattle.std.specs.List.{AllByRecursion as All}
 use Rattle.std.proofs.lemmas.List.{drop_all}
 use Rattle.std.proofs.lemmas.Bool.{cond-false, le-ltb}
-use Rattle.numbers.specs.declared.sector.Address.{Address}
 use Rattle.layout.specs.declared.table.Table.{Table}
 use Rattle.layout.specs.Words.{Contents, Bytes, sector_size, words, stored_all}
 use Rattle.numbers.specs.Lengths.{near_sectors, table_sectors, tables}

@@ -1,5 +1,5 @@
 -- What holds of first sectors and extension tables as they are stored.
-use Rattle.std.proofs.Common.{◌≡◌, ℕ, zero, suc, ◌+◌, ◌-◌, ◌*◌, ◌^◌, ◌<◌, ◌≤◌, Bool, true, false, cond, ◌&&◌, eqb, List, [], ◌∷◌, ◌++◌, map, length, get_or, take, drop, Ok, Err, Result, sym, refl, ap, ◌∙◌, subst, ap₂, append_assoc, arith}
+use Rattle.std.proofs.Common.{◌≡◌, ℕ, ◌+◌, ◌^◌, ◌<◌, ◌≤◌, Bool, true, false, cond, eqb, List, [], ◌∷◌, ◌++◌, map, length, drop, Ok, Err, Result, sym, refl, ap, ◌∙◌, subst, ap₂, append_assoc, arith}
 use Rattle.std.specs.List.{AllByRecursion as All}
 use Rattle.std.proofs.lemmas.List.{length-append, length-map}
 use Rattle.std.proofs.lemmas.Bool.{eqb-true, eq-eqb, and_from}
@@ -8,7 +8,7 @@ use Rattle.layout.specs.declared.header.Header.{Header}
 use Rattle.layout.specs.declared.header.HeaderFault.{HeaderFault}
 use Rattle.layout.specs.declared.header.HeaderFault.TheVariants.{Mark, End, Link}
 use Rattle.numbers.specs.Sectors.{address}
-use Rattle.layout.specs.Words.{Contents, Bytes, sector_size, word_size, word, words, stored, stored_all, part, written}
+use Rattle.layout.specs.Words.{Contents, Bytes, sector_size, word, words, stored, stored_all, part, written}
 use Rattle.numbers.specs.Names.{name_size}
 use Rattle.numbers.specs.Lengths.{header_size, most_tables, near_sectors, longest, last_sector, last_bytes, length_of, good_end}
 use Rattle.layout.specs.Headers.{file_mark, mark_at, name_at, last_at, used_at, date_at, tables_at, near_at, numbers, addresses_in, header_bytes, fields_in, read_header, links_due, linked, header_in, IsHeader, FirstSectors}

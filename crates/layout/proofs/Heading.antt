@@ -1,16 +1,15 @@
 -- A file's first sector.
-use Rattle.std.proofs.Common.{◌≡◌, ℕ, zero, suc, ◌+◌, ◌-◌, ◌*◌, ◌^◌, ◌<◌, ◌≤◌, Bool, true, false, cond, ◌&&◌, eqb, ltb, List, [], ◌∷◌, ◌++◌, map, length, get_or, take, drop, set, Ok, Err, sym, refl, ap, ◌∙◌, subst, ap₂, append_assoc, arith}
-use Rattle.std.proofs.lemmas.Bool.{eq-eqb, ne_eqb, eqb-true, and_parts, and_left, and_right}
+use Rattle.std.proofs.Common.{◌≡◌, ℕ, suc, ◌+◌, ◌*◌, ◌<◌, ◌≤◌, Bool, true, false, ◌&&◌, eqb, ltb, List, [], ◌∷◌, ◌++◌, map, length, get_or, take, drop, set, Ok, sym, refl, ap, ◌∙◌, ap₂, append_assoc, arith}
+use Rattle.std.proofs.lemmas.Bool.{eq-eqb, ne_eqb, and_left, and_right}
 use Rattle.layout.specs.declared.header.Header.{Header}
-use Rattle.layout.specs.declared.header.HeaderFault.TheVariants.{Mark, End, Link}
 use Rattle.numbers.specs.Sectors.{address, as_due, due_from}
-use Rattle.std.proofs.lemmas.List.{length-append, length-map, length-take-le, get_or-map, at_drop_more, at_drop_all, map_more, take_more_set, map-append, take_all}
+use Rattle.std.proofs.lemmas.List.{length-append, length-map, length-take-le, get_or-map, at_drop_more, at_drop_all, map_more, take_more_set, map-append}
 use Rattle.numbers.specs.declared.sector.Address.{Address}
-use Rattle.layout.specs.Words.{Contents, Bytes, word_size, word, words, stored, stored_all, part, written}
+use Rattle.layout.specs.Words.{Contents, word_size, word, words, stored, stored_all, part, written}
 use Rattle.numbers.specs.Names.{name_size}
 use Rattle.numbers.specs.Lengths.{most_tables, near_sectors, length_of, good_end, last_sector, tables}
 use Rattle.layout.specs.Headers.{file_mark, mark_at, name_at, last_at, used_at, date_at, tables_at, near_at, numbers, addresses_in, fields_in, read_header, links_due}
-use Rattle.layout.proofs.Writing.{written_none, written-more, length-stored_all, stored_all-push, words-push, length-words}
+use Rattle.layout.proofs.Writing.{written-more, length-stored_all, stored_all-push, words-push}
 
 -- ADDRESSES, ONE MORE
 pub put-one-more : (c s : Contents) (at i v : ℕ) (list : List Address) (d : Address) → at + word_size * length list ≤ length c → i < length list → v ≡ (get_or list i d).0 → s ≡ written c at (stored_all (numbers (take i list))) → written s (at + 4 * i) (stored v) ≡ written c at (stored_all (numbers (take (i + 1) list)))

@@ -1,10 +1,9 @@
 -- Stored numbers.
-use Rattle.std.proofs.Common.{◌≡◌, ℕ, zero, suc, ◌+◌, ◌-◌, ◌*◌, ◌/◌, ◌%◌, ◌^◌, ◌<◌, ◌≤◌, ◌⊎◌, List, [], ◌∷◌, ◌++◌, length, get_or, take, drop, sym, refl, ap, ◌∙◌, subst, ap₂, inl, inr, arith}
-use Rattle.std.specs.List.{AllByRecursion as All}
-use Rattle.std.proofs.lemmas.List.{get_or-append_right, get_or_append_left, get_or-take, get_or-drop, length-take, length-take-le, length-drop, length-append, drop_more, take-append-drop}
+use Rattle.std.proofs.Common.{◌≡◌, ℕ, ◌+◌, ◌-◌, ◌*◌, ◌/◌, ◌%◌, ◌^◌, ◌<◌, ◌≤◌, ◌⊎◌, List, [], ◌∷◌, ◌++◌, length, get_or, take, drop, sym, refl, ap, ◌∙◌, subst, ap₂, inl, inr, arith}
+use Rattle.std.proofs.lemmas.List.{get_or-append_right, get_or_append_left, get_or-take, get_or-drop, length-take-le, drop_more}
 use Rattle.std.proofs.ByRecursion.{All-get_or}
 use native.Mathlib.Nat.{div-div-eq-div-mul, div-add-mod}
-use Rattle.layout.specs.Words.{Contents, Bytes, word_size, word, stored, stored_all, words, part, written, StoredNumbers}
+use Rattle.layout.specs.Words.{Contents, Bytes, word_size, word, stored, part, written, StoredNumbers}
 
 -- a number past n bytes
 pub word-past : (p q : Contents) (n i : ℕ) → length p ≡ n → word (p ++ q) (n + i) ≡ word q i

@@ -1,19 +1,18 @@
 -- What holds of directory pages as they are stored.
-use Rattle.std.proofs.Common.{◌≡◌, ℕ, zero, suc, ◌+◌, ◌-◌, ◌*◌, ◌/◌, ◌^◌, ◌<◌, ◌≤◌, Bool, true, false, cond, not, ◌&&◌, eqb, leb, List, [], ◌∷◌, ◌++◌, length, take, drop, replicate, Some, None, Ok, Err, Option, Result, sym, refl, ap, ◌∙◌, subst, ap₂, append_assoc, arith}
+use Rattle.std.proofs.Common.{◌≡◌, ℕ, zero, suc, ◌+◌, ◌-◌, ◌*◌, ◌/◌, ◌^◌, ◌<◌, ◌≤◌, Bool, true, false, cond, not, ◌&&◌, eqb, leb, List, [], ◌∷◌, ◌++◌, length, drop, replicate, Some, None, Ok, Err, Option, Result, sym, refl, ap, ◌∙◌, subst, ap₂, append_assoc, arith}
 use Rattle.std.specs.List.{AllByRecursion as All}
-use Rattle.std.proofs.lemmas.List.{length-append, length-replicate}
+use Rattle.std.proofs.lemmas.List.{length-append}
 use Rattle.std.proofs.lemmas.Bool.{and_parts, and_from, eqb-true, ne_eqb, leb-true}
 use Rattle.numbers.specs.declared.sector.Sector.{Sector}
 use Rattle.layout.specs.declared.entry.Entry.{Entry}
 use Rattle.layout.specs.declared.entry.StoredEntry.{StoredEntry}
-use Rattle.layout.specs.declared.entry.PageHead.{PageHead}
 use Rattle.layout.specs.declared.entry.PageKind.{PageKind}
 use Rattle.layout.specs.declared.entry.PageFault.{PageFault}
 use Rattle.layout.specs.declared.entry.PageFault.TheVariants.{Mark, BadName, BadLink}
 use Rattle.layout.specs.Words.{Contents, Bytes, sector_size, word_size, blank, word, stored, part, written}
-use Rattle.numbers.specs.Sectors.{address_step, address, first_linked, leads, sector_at, as_due}
+use Rattle.numbers.specs.Sectors.{address_step, address, leads, sector_at, as_due}
 use Rattle.numbers.specs.Names.{name_size, every, name_in, is_name_field}
-use Rattle.layout.specs.Entries.{page_mark, page_mark_at, count_at, first_at, zeros_at, entries_at, entry_size, file_at, below_at, most_entries, head_in, is_leaf, least_of, count_fits, count_fault, entry_at, stored_in, entry_of, check_entry, link_address, entry_bytes, all_entry_bytes}
+use Rattle.layout.specs.Entries.{page_mark, page_mark_at, count_at, first_at, zeros_at, entries_at, entry_size, file_at, below_at, most_entries, head_in, least_of, count_fits, count_fault, entry_at, stored_in, entry_of, check_entry, link_address, entry_bytes, all_entry_bytes}
 use Rattle.layout.specs.Pages.{PageData, page_front, page_bytes, prepend, rows_in, with_rows, with_head, page_in, no_page, LinkFits, EntryFits, PageFits, DirectoryPages}
 use Rattle.layout.proofs.Numbers.{word-past, word-stored, word-whole}
 use Rattle.numbers.proofs.Linking.{leads-says, leads-from, led-to}

@@ -1,11 +1,11 @@
 -- Directory pages, entry by entry.
-use Rattle.std.proofs.Common.{◌≡◌, ℕ, zero, suc, ◌+◌, ◌-◌, ◌*◌, ◌<◌, ◌≤◌, Bool, List, [], ◌∷◌, ◌++◌, length, get_or, take, drop, replicate, Ok, Err, Result, sym, refl, ap, ◌∙◌, subst, ap₂, append_assoc, append-nil, arith}
+use Rattle.std.proofs.Common.{◌≡◌, ℕ, suc, ◌+◌, ◌-◌, ◌*◌, ◌<◌, ◌≤◌, Bool, List, [], ◌∷◌, ◌++◌, length, get_or, take, drop, replicate, Ok, Err, Result, sym, refl, ap, ◌∙◌, append_assoc, append-nil, arith}
 use Rattle.std.proofs.lemmas.List.{length-append, length-replicate, take_more, drop-replicate, replicate-append-replicate}
 use Rattle.layout.specs.declared.entry.Entry.{Entry}
 use Rattle.layout.specs.declared.entry.PageFault.{PageFault}
 use Rattle.layout.specs.Words.{Contents, sector_size, blank, stored, written}
-use Rattle.layout.specs.Entries.{page_mark, zeros_at, entries_at, entry_size, most_entries, stored_in, check_entry, entry_bytes, all_entry_bytes}
-use Rattle.layout.specs.Pages.{PageData, page_front, page_bytes, prepend, rows_in}
+use Rattle.layout.specs.Entries.{page_mark, zeros_at, entries_at, entry_size, stored_in, check_entry, entry_bytes, all_entry_bytes}
+use Rattle.layout.specs.Pages.{prepend, rows_in}
 use Rattle.layout.proofs.Writing.{written-more}
 use Rattle.layout.proofs.Heading.{next}
 

@@ -1,9 +1,9 @@
 -- Fields written and read one after another.
-use Rattle.std.proofs.Common.{◌≡◌, ℕ, zero, suc, ◌+◌, ◌-◌, ◌*◌, ◌^◌, ◌<◌, ◌≤◌, List, [], ◌∷◌, ◌++◌, map, length, get_or, take, drop, sym, refl, ap, ◌∙◌, subst, ap₂, append_assoc, append-nil, arith}
+use Rattle.std.proofs.Common.{◌≡◌, ℕ, zero, suc, ◌+◌, ◌*◌, ◌^◌, ◌<◌, ◌≤◌, List, [], ◌∷◌, ◌++◌, length, take, drop, sym, refl, ap, ◌∙◌, ap₂, append_assoc, append-nil, arith}
 use Rattle.std.specs.List.{AllByRecursion as All}
 use Rattle.std.proofs.lemmas.List.{length-append, length-take-le, length-drop, take_at, drop_at, drop_all, drop-drop, take-append-drop}
 use Rattle.layout.specs.Words.{Contents, Bytes, word_size, word, words, stored, stored_all, part, written}
-use Rattle.layout.proofs.Numbers.{word_at, word-past, word-whole, word_fits}
+use Rattle.layout.proofs.Numbers.{word_at, word-whole, word_fits}
 
 -- WRITING
 pub written_none : (c : Contents) (i : ℕ) → written c i [] ≡ c

@@ -1,15 +1,15 @@
 -- A file's first sector, and its extension tables.
-use Rattle.std.specs.Prelude.{◌≡◌, ℕ, zero, suc, ◌+◌, ◌*◌, ◌^◌, ◌<◌, ◌≤◌, Bool, true, false, cond, ◌&&◌, List, [], ◌∷◌, ◌++◌, map, length, drop, replicate, Ok, Err, Result, ◌==◌, slice_index, slice_set}
+use Rattle.std.specs.Prelude.{◌≡◌, ℕ, ◌+◌, ◌^◌, ◌<◌, ◌≤◌, Bool, true, cond, ◌&&◌, List, ◌++◌, map, length, drop, replicate, Ok, Err, Result, ◌==◌, slice_index, slice_set}
 use Rattle.std.specs.List.{AllByRecursion as All}
 use Rattle.numbers.specs.declared.sector.Address.{Address}
 use Rattle.numbers.specs.declared.name.Name.{Name}
 use Rattle.layout.specs.declared.header.Header.{Header}
 use Rattle.layout.specs.declared.header.HeaderFault.{HeaderFault}
 use Rattle.layout.specs.declared.header.HeaderFault.TheVariants.{Mark, End, Link}
-use Rattle.layout.specs.Words.{Contents, Bytes, sector_size, word_size, word, words, stored, stored_all, part, written}
+use Rattle.layout.specs.Words.{Contents, Bytes, sector_size, word, words, stored, stored_all, part, written}
 use Rattle.numbers.specs.Sectors.{address, due_from}
 use Rattle.numbers.specs.Names.{name_size}
-use Rattle.numbers.specs.Lengths.{header_size, near_sectors, most_tables, table_sectors, longest, last_sector, last_bytes, length_of, good_end, tables}
+use Rattle.numbers.specs.Lengths.{near_sectors, most_tables, longest, last_sector, last_bytes, length_of, good_end, tables}
 
 -- the mark of a file's first sector, and where its fields stand
 abbrev pub file_mark : ℕ

@@ -3,7 +3,7 @@ use Rattle.std.specs.Prelude.{◌≡◌, ℕ, ◌+◌, ◌-◌, ◌*◌, ◌/◌
 use Rattle.std.specs.List.{AllByRecursion as All}
 use Rattle.layout.specs.declared.table.Table.{Table}
 use Rattle.layout.specs.Words.{Contents, Bytes, sector_size, stored_all}
-use Rattle.numbers.specs.Lengths.{near_sectors, most_tables, table_sectors, last_of_longest, tables}
+use Rattle.numbers.specs.Lengths.{near_sectors, table_sectors, last_of_longest, tables}
 use Rattle.layout.specs.Headers.{numbers, addresses_in}
 
 -- the sector of a table, and the table in a sector

@@ -1,7 +1,7 @@
 -- Lengths and ends of files.
-use Rattle.std.proofs.Common.{◌≡◌, ℕ, ◌+◌, ◌-◌, ◌*◌, ◌/◌, ◌%◌, ◌<◌, ◌≤◌, Bool, true, false, cond, ◌&&◌, eqb, ltb, leb, sym, refl, ap, ◌∙◌, subst, arith}
-use Rattle.std.proofs.lemmas.Bool.{and_parts, and_from, eqb-true, eqb-false, leb-true, le-leb, lt-ltb, le-ltb, cond_both, ltb-true, ltb-false}
-use Rattle.numbers.specs.Lengths.{sector_size, header_size, near_sectors, most_tables, table_sectors, longest, last_of_longest, last_sector, last_bytes, length_of, good_end, place, tables, sectors, Lengths, Ends, Figures}
+use Rattle.std.proofs.Common.{◌≡◌, ℕ, ◌+◌, ◌-◌, ◌*◌, ◌/◌, ◌<◌, ◌≤◌, Bool, true, false, cond, ◌&&◌, eqb, ltb, leb, refl, arith}
+use Rattle.std.proofs.lemmas.Bool.{and_parts, and_from, eqb-true, eqb-false, leb-true, le-leb, cond_both, ltb-true, ltb-false}
+use Rattle.numbers.specs.Lengths.{sector_size, header_size, near_sectors, most_tables, table_sectors, longest, last_of_longest, last_sector, last_bytes, length_of, good_end, place, tables, Lengths, Figures}
 
 pub used : (l : ℕ) → (1 ≤ last_bytes l) × (last_bytes l ≤ sector_size) × (last_sector l ≡ 0 → header_size ≤ last_bytes l)
 used l = (omega arith, omega arith, λ e. omega arith)

@@ -1,5 +1,5 @@
 -- Orders of names, each given by a three-way compare.
-use Rattle.std.specs.Prelude.{◌≡◌, ℕ, zero, suc, true, List, [], ◌∷◌}
+use Rattle.std.specs.Prelude.{◌≡◌, ℕ, zero, suc, true, [], ◌∷◌}
 use Rattle.std.specs.declared.cmp.Ordering.{Ordering}
 pub use Rattle.std.specs.declared.cmp.Ordering.TheVariants.{Less as below, Equal as same, Greater as above}
 use Rattle.numbers.specs.Names.{Key, good_name, name_field}

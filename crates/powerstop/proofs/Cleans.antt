@@ -1,7 +1,7 @@
 -- Every pile over a blank image is one that a plan can start from.
-use Rattle.std.proofs.Common.{◌≡◌, ℕ, zero, suc, ◌+◌, ◌-◌, ◌*◌, ◌/◌, ◌%◌, ◌<◌, ◌≤◌, true, List, [], ◌∷◌, map, length, take, drop, replicate, sym, refl, ap, ◌∙◌, subst, inl, inr, arith}
+use Rattle.std.proofs.Common.{◌≡◌, ℕ, zero, suc, ◌+◌, ◌-◌, ◌*◌, ◌%◌, List, [], ◌∷◌, map, length, take, drop, replicate, sym, refl, ap, ◌∙◌, subst, inl, inr, arith}
 use Rattle.disk.specs.Meaning.{Contents, Meaning, In}
-use Rattle.disk.specs.Sectors.{count, sector, over}
+use Rattle.disk.specs.Sectors.{sector, over}
 use Rattle.layers.specs.declared.fuse.FuseState.{FuseState}
 use Rattle.layers.specs.declared.fuse.FuseState.TheVariants.{Counting}
 use Rattle.layers.specs.declared.kept.Kept.{Kept}

@@ -1,6 +1,6 @@
 -- What each public call promises of the store before it, v, its answer a, and the store after it, v'.
 use Rattle.std.specs.Prelude.{◌≡◌, ℕ, zero, suc, ◌<◌, ◌≤◌, Bool, true, false, cond, ◌⊎◌, ◌↔◌, List, [], ◌∷◌, ◌++◌, map, length, take, Some, None, Option, ◌==◌, nat_lt, slice_index, slice_index_or}
-use Rattle.numbers.specs.Names.{Key, name_field}
+use Rattle.numbers.specs.Names.{Key}
 use Rattle.numbers.specs.Lengths.{header_size}
 use Rattle.tree.specs.Tree.{Entry, page}
 use Rattle.layout.specs.Headers.{header_bytes}

@@ -1,5 +1,5 @@
 -- What holds of the table, of the ledger, and of the two together.
-use Rattle.std.specs.Prelude.{◌≡◌, ℕ, ◌+◌, ◌<◌, ◌≤◌, Bool, true, false, List, [], ◌∷◌, ◌++◌, map, length, get_or, Some, None, slice_index_or}
+use Rattle.std.specs.Prelude.{◌≡◌, ℕ, ◌+◌, ◌<◌, ◌≤◌, true, false, List, [], ◌++◌, map, length, get_or, None, slice_index_or}
 use Rattle.numbers.specs.Names.{Key}
 use Rattle.tree.specs.Tree.{Entry}
 use Rattle.disk.specs.Meaning.{Contents}

@@ -1,5 +1,5 @@
 -- The ledger: what the calls' arguments and answers say of names and files, with numbers of its own for files and nothing of sectors.
-use Rattle.std.specs.Prelude.{◌≡◌, ℕ, zero, suc, ◌+◌, ◌<◌, ◌≤◌, min, Bool, true, false, cond, List, [], ◌∷◌, ◌++◌, map, length, drop, is_some, Some, None, Option, ◌≢◌, slice_index, slice_index_or, slice_set}
+use Rattle.std.specs.Prelude.{◌≡◌, ℕ, zero, suc, ◌<◌, ◌≤◌, min, Bool, true, false, cond, List, [], ◌∷◌, ◌++◌, map, length, drop, is_some, Some, None, Option, ◌≢◌, slice_index, slice_index_or, slice_set}
 use Rattle.numbers.specs.Names.{Key}
 use Rattle.numbers.specs.Order.{cmp}
 use Rattle.tree.specs.Tree.{Entry, Rises}

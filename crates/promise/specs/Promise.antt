@@ -1,6 +1,6 @@
 -- The promise over power stops: what a Start finds, whatever calls came before it, whichever disk calls were gone and whatever a restart
 -- picked.
-use Rattle.std.specs.Prelude.{◌≡◌, ℕ, ◌+◌, ◌-◌, ◌<◌, ◌≤◌, Bool, true, false, List, [], ◌∷◌, ◌++◌, map, length, get_or, Ok, Option}
+use Rattle.std.specs.Prelude.{◌≡◌, ℕ, Bool, true, false, List, [], ◌∷◌, map, Ok, Option}
 use Rattle.numbers.specs.Names.{Key}
 use Rattle.tree.specs.Tree.{Entry}
 use Rattle.disk.specs.Meaning.{Contents, Meaning, In}

@@ -1,5 +1,5 @@
 -- The plain table, and what each call makes of it: its answer, and the table after it.
-use Rattle.std.specs.Prelude.{◌≡◌, ℕ, zero, suc, ◌+◌, ◌-◌, ◌<◌, ◌≤◌, min, max, Bool, true, false, cond, not, ◌&&◌, ◌||◌, ◌≢◌, List, [], ◌∷◌, ◌++◌, map, length, take, drop, replicate, is_some, Some, None, Ok, Err, Option, Result, ◌==◌, nat_le, nat_lt, slice_index, slice_index_or, slice_set}
+use Rattle.std.specs.Prelude.{◌≡◌, ℕ, suc, ◌+◌, ◌-◌, ◌<◌, ◌≤◌, min, max, Bool, true, false, cond, not, ◌&&◌, ◌||◌, ◌≢◌, List, [], ◌∷◌, ◌++◌, map, length, take, drop, replicate, is_some, Some, None, Ok, Err, Option, ◌==◌, nat_le, nat_lt, slice_index, slice_index_or, slice_set}
 use Rattle.std.specs.Str.{bytes_eq}
 use Rattle.numbers.specs.Names.{Key, good_name}
 use Rattle.numbers.specs.Order.{cmp}
@@ -16,7 +16,7 @@ use Rattle.catalog.specs.declared.fault.LayoutFault.TheVariants.{BadSize}
 use Rattle.catalog.specs.Catalogs.{Extent, Catalog, Row, plain_tree, page_sectors, file_sectors, bytes_of}
 use Rattle.catalog.specs.Questions.{good_size, most_sectors, found}
 use Rattle.promise.specs.declared.fault.FileFault.{FileFault}
-use Rattle.promise.specs.declared.fault.FileFault.TheVariants.{Volume, Waiting, BadName, BadSlot, Absent, Full, Nameless, TooLong, NoRoom}
+use Rattle.promise.specs.declared.fault.FileFault.TheVariants.{Waiting, BadName, BadSlot, Absent, Full, Nameless, TooLong, NoRoom}
 use Rattle.promise.specs.Faults.{by_disk, by_layout}
 
 -- THE TABLE. A file: its bytes, L of them, and its closed length

@@ -1,6 +1,6 @@
 -- The plain table and the ledger beside it: the same names, slots and files, but that one knows files by their first sectors and the
 -- other by numbers of its own.
-use Rattle.std.specs.Prelude.{◌≡◌, ℕ, ◌+◌, ◌-◌, ◌<◌, ◌≤◌, Bool, true, false, ◌⊎◌, List, [], ◌∷◌, map, length, Some, None, Option, slice_index_or}
+use Rattle.std.specs.Prelude.{◌≡◌, ℕ, ◌-◌, true, false, ◌⊎◌, map, Some, None, Option, slice_index_or}
 use Rattle.numbers.specs.Names.{Key}
 use Rattle.tree.specs.Tree.{Entry, to_list, pages}
 use Rattle.disk.specs.Meaning.{In}

@@ -8,7 +8,7 @@ use Rattle.tree.specs.Stored.{Shown, map_page, load, loaded, write, Each, Sector
 use Rattle.tree.proofs.Changes.{delete-changes}
 use Rattle.tree.proofs.Drain.{delete-over}
 use Rattle.tree.proofs.Stored.{load-stays, stored_at, write_same, write-other, off-more, off-new}
-use Rattle.tree.proofs.Laid.{more, rest-laid, page-laid, laid}
+use Rattle.tree.proofs.Laid.{rest-laid, page-laid, laid}
 use Rattle.tree.proofs.Shared.{page-at, where-at, below_none, changed-below, replace-stores}
 use Rattle.tree.proofs.Places.{kid-map, kid-elim, one-level, one-sector}
 use Rattle.tree.proofs.Stay.{some-any, any_some, pull, stands-trans, sectors-sub, sectors-at, stands-back, stands-has, has-stands, first-stands, where-stands}

@@ -1,5 +1,5 @@
 -- One step more of a plan: what a disk may leave stays within what the plan allows.
-use Rattle.std.proofs.Common.{◌≡◌, ℕ, ◌+◌, ◌<◌, Bool, true, false, cond, eqb, ◌⊎◌, List, [], ◌∷◌, ◌++◌, length, get_or, take, Ok, Err, sym, refl, ap, ◌∙◌, subst, inl, inr, ⊎_elim}
+use Rattle.std.proofs.Common.{◌≡◌, ℕ, ◌+◌, ◌<◌, Bool, true, false, cond, eqb, List, [], ◌∷◌, ◌++◌, length, get_or, take, Ok, Err, sym, refl, ap, ◌∙◌, subst, inl, inr, ⊎_elim}
 use Rattle.std.proofs.lemmas.List.{take_more}
 use Rattle.std.proofs.lemmas.Bool.{eq-eqb, ne_eqb, cases_eq}
 use Rattle.disk.specs.declared.fault.DiskFault.{DiskFault}
@@ -8,7 +8,7 @@ use Rattle.disk.specs.Rules.{Answer, Puts, Settles}
 use Rattle.plan.specs.declared.step.Step.{Step}
 use Rattle.plan.specs.declared.step.Step.TheVariants.{Put, Settle}
 use Rattle.trial.specs.declared.ending.Ending.TheVariants.{Finished, Stopped}
-use Rattle.trial.specs.Endings.{is_put, reach}
+use Rattle.trial.specs.Endings.{is_put}
 use Rattle.trial.specs.Leaves.{newest, after, leaves}
 use Rattle.trial.specs.Runs.{Rule, Fresh, Allows, Ran}
 

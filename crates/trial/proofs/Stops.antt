@@ -12,8 +12,8 @@ use Rattle.trial.specs.declared.ending.Ending.{Ending}
 use Rattle.trial.specs.declared.stop.Report.{Report}
 use Rattle.trial.specs.Endings.{reach}
 use Rattle.trial.specs.Leaves.{leaves, among, failing}
-use Rattle.trial.specs.Runs.{Ended, Fresh, Ran}
-use Rattle.trial.specs.Stops.{wrong, Looks, Counts, Blank, StopAnswers}
+use Rattle.trial.specs.Runs.{Ended, Ran}
+use Rattle.trial.specs.Stops.{wrong, Looks, Counts, StopAnswers}
 use Rattle.trial.proofs.Judges.{in-among, failing-none, failing-more}
 
 -- whether sector k shows what is allowed

@@ -1,5 +1,5 @@
 -- What a plan allows a power stop to leave in a sector: what was settled last, or what was put later.
-use Rattle.std.specs.Prelude.{ℕ, zero, suc, ◌+◌, Bool, true, false, cond, ◌||◌, List, [], ◌∷◌, ◌==◌}
+use Rattle.std.specs.Prelude.{ℕ, zero, suc, ◌+◌, Bool, false, cond, ◌||◌, List, [], ◌∷◌, ◌==◌}
 use Rattle.std.specs.Str.{bytes_eq}
 use Rattle.disk.specs.Meaning.{Contents}
 use Rattle.plan.specs.declared.step.Step.{Step}

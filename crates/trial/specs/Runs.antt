@@ -1,16 +1,14 @@
 -- A plan run on a disk: m is what the disk means before and m' after, d and d' the disk itself.
-use Rattle.std.specs.Prelude.{◌≡◌, ℕ, ◌<◌, true, false, List, [], ◌∷◌, ◌++◌, length, take, Ok, Err, Result, slice_index_or}
-use Rattle.disk.specs.declared.fault.DiskFault.{DiskFault}
+use Rattle.std.specs.Prelude.{◌≡◌, ℕ, ◌<◌, true, List, [], ◌∷◌, ◌++◌, length, take, Ok, Err, slice_index_or}
 use Rattle.disk.specs.Meaning.{Contents, Meaning, In, Sound}
 use Rattle.disk.specs.Rules.{Answer, Request, Settled, Puts, Settles}
-use Rattle.disk.specs.Rules.Request.{putting, settling, restarting}
-use Rattle.plan.specs.Plans.{blank}
+use Rattle.disk.specs.Rules.Request.{putting, settling}
 use Rattle.plan.specs.declared.step.Step.{Step}
 use Rattle.plan.specs.declared.step.Step.TheVariants.{Put, Settle}
 use Rattle.trial.specs.declared.ending.Ending.{Ending}
 use Rattle.trial.specs.declared.ending.Ending.TheVariants.{Finished, Stopped}
 use Rattle.trial.specs.Endings.{reach}
-use Rattle.trial.specs.Leaves.{leaves, among, failing}
+use Rattle.trial.specs.Leaves.{leaves}
 
 -- what a step asks of a disk, and the rule that it goes by
 abbrev pub request : Step → Request

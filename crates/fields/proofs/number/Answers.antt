@@ -1,8 +1,7 @@
-use Rattle.std.proofs.Common.{◌≡◌, ℕ, zero, suc, ◌+◌, ◌-◌, ◌*◌, ◌^◌, ◌<◌, ◌≤◌, Bool, true, false, cond, ◌&&◌, eqb, leb, List, length, get_or, drop, Some, None, Option, sym, refl, ap, ◌∙◌, add-one, arith, lit≤, rules, le-leb, leb-true}
+use Rattle.std.proofs.Common.{◌≡◌, ℕ, zero, suc, ◌+◌, ◌*◌, ◌^◌, ◌<◌, ◌≤◌, Bool, true, false, cond, ◌&&◌, leb, List, length, get_or, drop, Some, None, Option, sym, refl, ap, ◌∙◌, add-one, arith, lit≤, le-leb, leb-true}
 use native.Mathlib.Nat.{pow-succ'}
-use borrow.Author.Tests.{true-leb}
 use Rattle.std.proofs.lemmas.List.{at_drop_more, at_drop_all}
-use Rattle.fields.specs.Fields.{digit, digits, value, numeral, number_of}
+use Rattle.fields.specs.Fields.{digit, digits, value, number_of}
 use Rattle.fields.proofs.number.Goals as goal
 
 -- 10 ^ i up to a million, and a step of it

@@ -1,4 +1,4 @@
-use Rattle.std.proofs.Common.{◌≡◌, ◌+◌, ◌<◌, cond, sym, ap, ◌∙◌, arith}
+use Rattle.std.proofs.Common.{◌≡◌, ◌+◌, cond, sym, ap, ◌∙◌, arith}
 use Rattle.trial.proofs.Stops.{looked-none, looked-more, counts-err, counts_all}
 use Rattle.trial.proofs.stop.count_wrong.Goals as goal
 use Rattle.trial.proofs.stop.count_wrong.Goals.{then-not-branch, else-not-branch}

@@ -1,4 +1,3 @@
-use Rattle.std.proofs.Common.{◌≡◌}
 use Rattle.trial.proofs.Stops.{Looked}
 use Rattle.trial.proofs.stop.count_wrong.Given as goal
 

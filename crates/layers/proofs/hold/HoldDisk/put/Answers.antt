@@ -1,4 +1,4 @@
-use Rattle.std.proofs.Common.{◌≡◌, ◌<◌, length, sym, ap, ◌∙◌, arith}
+use Rattle.std.proofs.Common.{◌<◌, length, sym, ap, ◌∙◌, arith}
 use Rattle.disk.proofs.Refusals.{puts-outside, puts-gone}
 use Rattle.layers.specs.Rows.{at}
 use Rattle.layers.specs.Tables.{rows}

@@ -1,5 +1,4 @@
 use Rattle.std.proofs.Common.{◌≡◌, is_some, refl, ap, inl, inr, arith, length-set, length-take}
-use Rattle.std.proofs.lemmas.List.{length-take-le}
 use Rattle.layers.proofs.Rows.{copied, missing, kept_in, count-in, tidy-in, kept-end, count-end, tidy-end}
 use Rattle.layers.proofs.table.Table.keep.Goals as goal
 

@@ -1,4 +1,4 @@
-use Rattle.std.proofs.Common.{◌≢◌, arith}
+use Rattle.std.proofs.Common.{arith}
 use Rattle.layers.proofs.Rows.{last_row}
 use Rattle.layers.proofs.table.Table.last.Goals as goal
 

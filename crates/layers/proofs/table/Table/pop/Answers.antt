@@ -1,4 +1,4 @@
-use Rattle.std.proofs.Common.{◌≡◌, true, take, sym, ap, ◌∙◌, subst, arith}
+use Rattle.std.proofs.Common.{take, ap, ◌∙◌, arith}
 use Rattle.layers.specs.Rows.{tidy}
 use Rattle.layers.proofs.Rows.{tidy-popped, take-popped}
 use Rattle.layers.proofs.table.Table.pop.Goals as goal

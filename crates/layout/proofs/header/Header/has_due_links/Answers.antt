@@ -1,6 +1,6 @@
-use Rattle.std.proofs.Common.{◌≡◌, ℕ, ◌+◌, true, false, length, drop, sym, ap, ◌∙◌, arith}
+use Rattle.std.proofs.Common.{◌≡◌, ℕ, ◌+◌, true, length, drop, sym, ap, ◌∙◌, arith}
 use Rattle.numbers.specs.Sectors.{due_from}
-use Rattle.numbers.specs.Lengths.{last_sector, tables}
+use Rattle.numbers.specs.Lengths.{tables}
 use Rattle.layout.specs.Headers.{numbers}
 use Rattle.layout.proofs.Heading.{not_own, own-not, own-and}
 use Rattle.layout.proofs.header.Header.has_due_links.Goals as goal

@@ -1,4 +1,4 @@
-use Rattle.std.proofs.Common.{sym, ◌∙◌, ap₂, arith}
+use Rattle.std.proofs.Common.{sym, ◌∙◌, ap₂}
 use Rattle.numbers.specs.Lengths.{good_end, length_of}
 use Rattle.layout.proofs.Heading.{header_read}
 use Rattle.layout.proofs.header.Header.read.Goals as goal

@@ -1,4 +1,4 @@
-use Rattle.std.proofs.Common.{◌≡◌, ◌<◌, length, sym, arith}
+use Rattle.std.proofs.Common.{◌<◌, length, sym, arith}
 use Rattle.std.proofs.lemmas.List.{get_or-map}
 use Rattle.numbers.specs.declared.sector.Address.{Address}
 use Rattle.layout.proofs.header.Header.sector.Goals as goal

@@ -1,4 +1,4 @@
-use Rattle.std.proofs.Common.{◌≡◌, true, Decides}
+use Rattle.std.proofs.Common.{◌≡◌}
 use Rattle.std.proofs.lemmas.Slice.Eq.{slice_eq-Decides}
 use Rattle.std.proofs.lemmas.Bool.Decides.{not_from_Decides, Decides-eqb}
 use Rattle.numbers.proofs.Naming.{front-is, no_name, is_field, no_field}
