@@ -1,6 +1,6 @@
 -- Where a name stands among rows whose names rise.
 use Rattle.std.specs.Prelude.{◌≡◌, ◌≤◌, List, [], ◌∷◌, length, take, drop}
-use Rattle.std.specs.List.{AllByRecursion as All}
+use Rattle.std.specs.List.{AllByRecursion}
 use Rattle.numbers.specs.Names.{Key}
 use Rattle.numbers.specs.Order.{cmp, below, same, above}
 use Rattle.layout.specs.declared.entry.Entry.{Entry}
@@ -9,7 +9,7 @@ use Rattle.directory.specs.declared.kind.Place.TheVariants.{At, Between}
 
 -- the name is above every one of these rows
 abbrev pub OverAll : Key → List Entry → Type 0
-OverAll k rows = All (λ (e : Entry). cmp k e.name.bytes ≡ above) rows
+OverAll k rows = AllByRecursion (λ (e : Entry). cmp k e.name.bytes ≡ above) rows
 
 -- the first of these rows has the name
 abbrev pub NextHas : Key → List Entry → Type 0

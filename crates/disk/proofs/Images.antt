@@ -30,7 +30,7 @@ module _ (bytes : List ℕ) where
   does-outside-get {n} e h = record {
     answers = cond_above n (count bytes) _ _ _ h (ap Err e);
     leaves = refl;
-    never-gone = ap (λ (g : DiskFault). g.cause) e;
+    never_gone = ap (λ (g : DiskFault). g.cause) e;
     tail = refl;
   }
 
@@ -38,7 +38,7 @@ module _ (bytes : List ℕ) where
   does-outside-put {n} e h = record {
     answers = cond_above n (count bytes) _ _ _ h (ap Err e);
     leaves = cond_above n (count bytes) _ _ _ h refl;
-    never-gone = ap (λ (g : DiskFault). g.cause) e;
+    never_gone = ap (λ (g : DiskFault). g.cause) e;
     tail = refl;
   }
 
@@ -53,7 +53,7 @@ module _ (bytes : List ℕ) where
   }
 
   pub does-get : (n : ℕ) → n < count bytes → ImageDoes bytes (getting n) (Ok tt) bytes
-  does-get n h = record { answers = cond_below n (count bytes) _ _ h; leaves = refl; never-gone = tt; tail = refl }
+  does-get n h = record { answers = cond_below n (count bytes) _ _ h; leaves = refl; never_gone = tt; tail = refl }
 
   pub settles-over : Settles (over bytes) (Ok tt) (over bytes)
   settles-over = record {
@@ -96,7 +96,7 @@ module _ (bytes : List ℕ) (n : ℕ) (x : Contents) (inside : n < count bytes) 
   put-does = record {
     answers = cond_below n (count bytes) _ _ inside;
     leaves = cond_below n (count bytes) _ _ inside;
-    never-gone = tt;
+    never_gone = tt;
     tail = written-tail bytes x n inside whole;
   }
 

@@ -48,6 +48,6 @@ NeverGone (Err f) = f.cause ≡ Outside
 pub record ImageDoes (bytes : List ℕ) (q : Request) (r : Answer) (bytes' : List ℕ) : Type 0 where
   pub answers : r ≡ answered bytes q
   pub leaves : bytes' ≡ left bytes q
-  pub never-gone : NeverGone r
+  pub never_gone : NeverGone r
   -- what lies after the last whole sector is untouched
   pub tail : drop (1024 * count bytes) bytes' ≡ drop (1024 * count bytes) bytes

@@ -1,5 +1,5 @@
 ghost use Rattle.std.specs.Prelude.{◌≡◌};
-ghost use Rattle.disk.specs.Faults.{outside as is-outside, gone as is-gone};
+ghost use Rattle.disk.specs.Faults.{outside as is_outside, gone as is_gone};
 
 /// The kind of disk that an answer came from.
 #[derive(Clone, Copy, PartialEq, Eq, Debug)]
@@ -27,7 +27,7 @@ pub struct DiskFault {
 impl DiskFault {
     /// There is no sector of this number.
     pub fn outside(layer: Layer, sector: usize) -> DiskFault
-        ensures { result ≡ is-outside layer sector }
+        ensures { result ≡ is_outside layer sector }
     {
         DiskFault {
             layer,
@@ -38,7 +38,7 @@ impl DiskFault {
 
     /// The disk does not answer.
     pub fn gone(layer: Layer, sector: usize) -> DiskFault
-        ensures { result ≡ is-gone layer sector }
+        ensures { result ≡ is_gone layer sector }
     {
         DiskFault {
             layer,

@@ -1,6 +1,6 @@
 -- Extension tables.
 use Rattle.std.proofs.Common.{◌≡◌, ℕ, ◌+◌, ◌-◌, ◌*◌, ◌/◌, ◌^◌, ◌<◌, ◌≤◌, ltb, List, [], ◌++◌, length, sym, refl, ap, ◌∙◌, subst, append-nil, arith}
-use Rattle.std.specs.List.{AllByRecursion as All}
+use Rattle.std.specs.List.{AllByRecursion}
 use Rattle.std.proofs.lemmas.List.{drop_all}
 use Rattle.std.proofs.lemmas.Bool.{cond-false, le-ltb}
 use Rattle.layout.specs.declared.table.Table.{Table}
@@ -11,7 +11,7 @@ use Rattle.layout.specs.Tables.{table_bytes, table_in, table_place, ExtensionTab
 use Rattle.layout.proofs.Writing.{words-whole}
 use Rattle.layout.proofs.FirstSector.{addresses-at, numbers-in}
 
-table-back : (t : Table) → length t.sectors ≡ table_sectors → All (λ w. w < 2 ^ 32) (numbers t.sectors) → table_in (table_bytes t) ≡ t
+table-back : (t : Table) → length t.sectors ≡ table_sectors → AllByRecursion (λ w. w < 2 ^ 32) (numbers t.sectors) → table_in (table_bytes t) ≡ t
 table-back t l h =
     let e : t.sectors ≡ addresses_in (table_bytes t) 0 table_sectors =
     addresses-at [] [] t.sectors 0 table_sectors refl l h ∙ ap (λ (c : Contents). addresses_in c 0 table_sectors) (append-nil (table_bytes t)) in

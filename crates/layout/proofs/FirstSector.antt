@@ -1,6 +1,6 @@
 -- What holds of first sectors and extension tables as they are stored.
 use Rattle.std.proofs.Common.{◌≡◌, ℕ, ◌+◌, ◌^◌, ◌<◌, ◌≤◌, Bool, true, false, cond, eqb, List, [], ◌∷◌, ◌++◌, map, length, drop, Ok, Err, Result, sym, refl, ap, ◌∙◌, subst, ap₂, append_assoc, arith}
-use Rattle.std.specs.List.{AllByRecursion as All}
+use Rattle.std.specs.List.{AllByRecursion}
 use Rattle.std.proofs.lemmas.List.{length-append, length-map}
 use Rattle.std.proofs.lemmas.Bool.{eqb-true, eq-eqb, and_from}
 use Rattle.numbers.specs.declared.sector.Address.{Address}
@@ -26,7 +26,7 @@ pub numbers-in : (ws : List ℕ) → numbers (map (λ (w : ℕ). record { 0 = w 
 numbers-in [] = refl
 numbers-in (w ∷ ws) = ap (λ (t : List ℕ). w ∷ t) (numbers-in ws)
 
-pub addresses-at : (p q : Contents) (list : List Address) (n m : ℕ) → length p ≡ n → length list ≡ m → All (λ w. w < 2 ^ 32) (numbers list) → list ≡ addresses_in (p ++ (stored_all (numbers list) ++ q)) n m
+pub addresses-at : (p q : Contents) (list : List Address) (n m : ℕ) → length p ≡ n → length list ≡ m → AllByRecursion (λ w. w < 2 ^ 32) (numbers list) → list ≡ addresses_in (p ++ (stored_all (numbers list) ++ q)) n m
 addresses-at p q list n m e l h =
     let k : length (numbers list) ≡ m = length-map list (λ (a : Address). a.0) ∙ l in
     sym (ap (map (λ (w : ℕ). record { 0 = w })) (subst (λ (j : ℕ). words (p ++ (stored_all (numbers list) ++ q)) n j ≡ numbers list) k (words-at p q (numbers list) n e h)) ∙ numbered list)
@@ -76,7 +76,7 @@ module _ (nm : List ℕ) (a b d : ℕ) (ts ss : List Address) (rest : List ℕ) 
     unfolding flat rear
     flat-date h = word-past (stored file_mark ++ nm) rear last_at 8 front_long ∙ word-stored d (stored_all (numbers ts) ++ (stored_all (numbers ss) ++ rest)) h
 
-    flat-tables : length ts ≡ most_tables → All (λ w. w < 2 ^ 32) (numbers ts) → ts ≡ addresses_in flat tables_at most_tables
+    flat-tables : length ts ≡ most_tables → AllByRecursion (λ w. w < 2 ^ 32) (numbers ts) → ts ≡ addresses_in flat tables_at most_tables
     unfolding flat
     flat-tables l h =
         let p = stored file_mark ++ nm in
@@ -84,7 +84,7 @@ module _ (nm : List ℕ) (a b d : ℕ) (ts ss : List Address) (rest : List ℕ) 
         let r = stored_all (numbers ts) ++ (stored_all (numbers ss) ++ rest) in
         addresses-at (p ++ q) (stored_all (numbers ss) ++ rest) ts tables_at most_tables middle-long l h ∙ ap (λ (t : Contents). addresses_in t tables_at most_tables) (append_assoc p q r)
 
-    flat-sectors : length ts ≡ most_tables → length ss ≡ near_sectors → All (λ w. w < 2 ^ 32) (numbers ss) → ss ≡ addresses_in flat near_at near_sectors
+    flat-sectors : length ts ≡ most_tables → length ss ≡ near_sectors → AllByRecursion (λ w. w < 2 ^ 32) (numbers ss) → ss ≡ addresses_in flat near_at near_sectors
     unfolding flat
     flat-sectors l k h =
         let p = stored file_mark ++ nm in
@@ -159,8 +159,8 @@ fields-typed c l b =
     record {
       name = length_part c name_at name_size (omega arith);
       date = word_fits c date_at b (omega arith);
-      tables = (length-addresses c tables_at most_tables, subst (All (λ (w : ℕ). w < 2 ^ 32)) (sym (numbers-in (words c tables_at most_tables))) (words-fit c tables_at most_tables b (omega arith)));
-      sectors = (length-addresses c near_at near_sectors, subst (All (λ (w : ℕ). w < 2 ^ 32)) (sym (numbers-in (words c near_at near_sectors))) (words-fit c near_at near_sectors b (omega arith)));
+      tables = (length-addresses c tables_at most_tables, subst (AllByRecursion (λ (w : ℕ). w < 2 ^ 32)) (sym (numbers-in (words c tables_at most_tables))) (words-fit c tables_at most_tables b (omega arith)));
+      sectors = (length-addresses c near_at near_sectors, subst (AllByRecursion (λ (w : ℕ). w < 2 ^ 32)) (sym (numbers-in (words c near_at near_sectors))) (words-fit c near_at near_sectors b (omega arith)));
     }
 
 -- the bytes of a sector, field by field

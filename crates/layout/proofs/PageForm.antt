@@ -1,6 +1,6 @@
 -- What holds of directory pages as they are stored.
 use Rattle.std.proofs.Common.{◌≡◌, ℕ, zero, suc, ◌+◌, ◌-◌, ◌*◌, ◌/◌, ◌^◌, ◌<◌, ◌≤◌, Bool, true, false, cond, not, ◌&&◌, eqb, leb, List, [], ◌∷◌, ◌++◌, length, drop, replicate, Some, None, Ok, Err, Option, Result, sym, refl, ap, ◌∙◌, subst, ap₂, append_assoc, arith}
-use Rattle.std.specs.List.{AllByRecursion as All}
+use Rattle.std.specs.List.{AllByRecursion}
 use Rattle.std.proofs.lemmas.List.{length-append}
 use Rattle.std.proofs.lemmas.Bool.{and_parts, and_from, eqb-true, ne_eqb, leb-true}
 use Rattle.numbers.specs.declared.sector.Sector.{Sector}
@@ -64,7 +64,7 @@ name-long f h = let p = only f h in subst (λ (x : List ℕ). length x ≡ name_
 entry-long : (size : ℕ) (leaf : Bool) (e : Entry) → EntryFits size leaf e → length (entry_bytes e) ≡ entry_size
 entry-long size leaf e f = length-append e.name.bytes (stored (address e.file.0) ++ stored (link_address e.below)) ∙ omega (arith, name-long e.name.bytes f.name)
 
-entries-long : (size : ℕ) (leaf : Bool) (es : List Entry) → All (EntryFits size leaf) es → length (all_entry_bytes es) ≡ entry_size * length es
+entries-long : (size : ℕ) (leaf : Bool) (es : List Entry) → AllByRecursion (EntryFits size leaf) es → length (all_entry_bytes es) ≡ entry_size * length es
 entries-long size leaf [] f = refl
 entries-long size leaf (e ∷ es) f =
     length-append (entry_bytes e) (all_entry_bytes es) ∙ omega (arith, entry-long size leaf e f.0, entries-long size leaf es f.1)
@@ -97,7 +97,7 @@ module _ (size : ℕ) (leaf : Bool) (small : size < 2 ^ 16) where
       ∙ ap₂ (λ (x y : Bool). cond x (cond y (Ok (entry_of size (record { name = e.name; file = record { 0 = a }; below = record { 0 = b } }))) (Err BadLink)) (Err BadName)) f.name t
       ∙ ap (λ (x : Entry). Ok x) o
 
-  rows_at : (pre rest : Contents) (es : List Entry) (i : ℕ) → length pre ≡ entry_at i → All (EntryFits size leaf) es → rows_in size leaf (pre ++ (all_entry_bytes es ++ rest)) i (length es) ≡ Ok es
+  rows_at : (pre rest : Contents) (es : List Entry) (i : ℕ) → length pre ≡ entry_at i → AllByRecursion (EntryFits size leaf) es → rows_in size leaf (pre ++ (all_entry_bytes es ++ rest)) i (length es) ≡ Ok es
   rows_at pre rest [] i l f = refl
   rows_at pre rest (e ∷ es) i l f =
       let c = pre ++ ((entry_bytes e ++ all_entry_bytes es) ++ rest) in
@@ -166,17 +166,17 @@ module _ (size : ℕ) (leaf : Bool) (c : Contents) (bytes : Bytes c) where
       ∙ sym (append_assoc (part c at name_size) (stored (address (entry_of size s).file.0) ++ stored (link_address (entry_of size s).below)) (drop (at + entry_size) c)) in
       (subst (EntryFits size leaf) p.3 fits, subst (λ (x : Entry). drop at c ≡ entry_bytes x ++ drop (at + entry_size) c) p.3 eq)
 
-  rows-only : (m i : ℕ) (es : List Entry) → entry_at i + entry_size * m ≤ length c → rows_in size leaf c i m ≡ Ok es → (length es ≡ m) × All (EntryFits size leaf) es × (drop (entry_at i) c ≡ all_entry_bytes es ++ drop (entry_at i + entry_size * m) c)
+  rows-only : (m i : ℕ) (es : List Entry) → entry_at i + entry_size * m ≤ length c → rows_in size leaf c i m ≡ Ok es → (length es ≡ m) × AllByRecursion (EntryFits size leaf) es × (drop (entry_at i) c ≡ all_entry_bytes es ++ drop (entry_at i + entry_size * m) c)
   rows-only zero i es l h =
       let e : [] ≡ es = cc in
       let n : entry_at i ≡ entry_at i + entry_size * 0 = omega arith in
-      subst (λ (x : List Entry). (length x ≡ 0) × All (EntryFits size leaf) x × (drop (entry_at i) c ≡ all_entry_bytes x ++ drop (entry_at i + entry_size * 0) c)) e (refl, tt, ap (λ (j : ℕ). drop j c) n)
+      subst (λ (x : List Entry). (length x ≡ 0) × AllByRecursion (EntryFits size leaf) x × (drop (entry_at i) c ≡ all_entry_bytes x ++ drop (entry_at i + entry_size * 0) c)) e (refl, tt, ap (λ (j : ℕ). drop j c) n)
   rows-only (suc m) i es l h = go (λ es k. rows-only m (suc i) es (omega arith) k) (check_entry size leaf (stored_in c i)) (rows_in size leaf c (suc i) m) refl refl h
     where
       Holds : List Entry → Type 0
-      Holds es = (length es ≡ suc m) × All (EntryFits size leaf) es × (drop (entry_at i) c ≡ all_entry_bytes es ++ drop (entry_at i + entry_size * suc m) c)
+      Holds es = (length es ≡ suc m) × AllByRecursion (EntryFits size leaf) es × (drop (entry_at i) c ≡ all_entry_bytes es ++ drop (entry_at i + entry_size * suc m) c)
 
-      go : ((es : List Entry) → rows_in size leaf c (suc i) m ≡ Ok es → (length es ≡ m) × All (EntryFits size leaf) es × (drop (entry_at (suc i)) c ≡ all_entry_bytes es ++ drop (entry_at (suc i) + entry_size * m) c)) → (x : Result Entry PageFault) (y : Result (List Entry) PageFault) → check_entry size leaf (stored_in c i) ≡ x → rows_in size leaf c (suc i) m ≡ y → prepend x y ≡ Ok es → Holds es
+      go : ((es : List Entry) → rows_in size leaf c (suc i) m ≡ Ok es → (length es ≡ m) × AllByRecursion (EntryFits size leaf) es × (drop (entry_at (suc i)) c ≡ all_entry_bytes es ++ drop (entry_at (suc i) + entry_size * m) c)) → (x : Result Entry PageFault) (y : Result (List Entry) PageFault) → check_entry size leaf (stored_in c i) ≡ x → rows_in size leaf c (suc i) m ≡ y → prepend x y ≡ Ok es → Holds es
       go ih (Ok e) (Ok xs) a b h =
           let o = entry-only i e (omega arith) a in
           let r = ih xs b in
@@ -242,12 +242,12 @@ page-only kind size c p l b h =
     let a : link_address p.first ≡ q = ap link_address (sym s.first) ∙ k.0 in
     (fits, whole s.mark (sym r.0) (sym a) z r.2 (front_long kind size p fits))
   where
-    fitting : (kind : PageKind) (size : ℕ) (p : PageData) (leaf : Bool) (m : ℕ) → no_page p.first ≡ leaf → length p.rows ≡ m → count_fits kind leaf m ≡ true → LinkFits size leaf p.first → All (EntryFits size leaf) p.rows → PageFits kind size p
+    fitting : (kind : PageKind) (size : ℕ) (p : PageData) (leaf : Bool) (m : ℕ) → no_page p.first ≡ leaf → length p.rows ≡ m → count_fits kind leaf m ≡ true → LinkFits size leaf p.first → AllByRecursion (EntryFits size leaf) p.rows → PageFits kind size p
     fitting kind size p leaf m n e a b d =
         record {
           count = ap₂ (count_fits kind) n e ∙ a;
           first = subst (λ (x : Bool). LinkFits size x p.first) (sym n) b;
-          entries = subst (λ (x : Bool). All (EntryFits size x) p.rows) (sym n) d;
+          entries = subst (λ (x : Bool). AllByRecursion (EntryFits size x) p.rows) (sym n) d;
         }
 
     whole : word c page_mark_at ≡ page_mark → word c count_at ≡ length p.rows → word c first_at ≡ link_address p.first → part c zeros_at (entries_at - zeros_at) ≡ replicate (entries_at - zeros_at) 0 → drop entries_at c ≡ all_entry_bytes p.rows ++ drop (entries_at + entry_size * word c count_at) c → length (page_front p) ≡ entries_at + entry_size * length p.rows → c ≡ written c 0 (page_front p)

@@ -1,6 +1,6 @@
 -- Fields written and read one after another.
 use Rattle.std.proofs.Common.{◌≡◌, ℕ, zero, suc, ◌+◌, ◌*◌, ◌^◌, ◌<◌, ◌≤◌, List, [], ◌∷◌, ◌++◌, length, take, drop, sym, refl, ap, ◌∙◌, ap₂, append_assoc, append-nil, arith}
-use Rattle.std.specs.List.{AllByRecursion as All}
+use Rattle.std.specs.List.{AllByRecursion}
 use Rattle.std.proofs.lemmas.List.{length-append, length-take-le, length-drop, take_at, drop_at, drop_all, drop-drop, take-append-drop}
 use Rattle.layout.specs.Words.{Contents, Bytes, word_size, word, words, stored, stored_all, part, written}
 use Rattle.layout.proofs.Numbers.{word_at, word-whole, word_fits}
@@ -63,7 +63,7 @@ length-words c i zero = refl
 length-words c i (suc n) = ap suc (length-words c (i + word_size) n)
 
 -- numbers that were written are read again
-pub words-at : (p q : Contents) (ws : List ℕ) (n : ℕ) → length p ≡ n → All (λ w. w < 2 ^ 32) ws → words (p ++ (stored_all ws ++ q)) n (length ws) ≡ ws
+pub words-at : (p q : Contents) (ws : List ℕ) (n : ℕ) → length p ≡ n → AllByRecursion (λ w. w < 2 ^ 32) ws → words (p ++ (stored_all ws ++ q)) n (length ws) ≡ ws
 words-at p q [] n e h = refl
 words-at p q (w ∷ ws) n e h =
     let a : p ++ (stored_all (w ∷ ws) ++ q) ≡ p ++ (stored w ++ (stored_all ws ++ q)) = refl in
@@ -78,7 +78,7 @@ words-whole c i (suc n) b h =
     let e : i + word_size + word_size * n ≡ i + word_size * suc n = omega arith in
     word-whole c i b (omega arith) ∙ ap (λ (t : List ℕ). stored (word c i) ++ t) (words-whole c (i + word_size) n b (omega arith) ∙ ap (λ (j : ℕ). stored_all (words c (i + word_size) n) ++ drop j c) e)
 
-pub words-fit : (c : Contents) (i n : ℕ) → Bytes c → i + word_size * n ≤ length c → All (λ w. w < 2 ^ 32) (words c i n)
+pub words-fit : (c : Contents) (i n : ℕ) → Bytes c → i + word_size * n ≤ length c → AllByRecursion (λ w. w < 2 ^ 32) (words c i n)
 words-fit c i zero b h = tt
 words-fit c i (suc n) b h = (word_fits c i b (omega arith), words-fit c (i + word_size) n b (omega arith))
 

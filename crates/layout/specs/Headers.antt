@@ -1,6 +1,6 @@
 -- A file's first sector, and its extension tables.
 use Rattle.std.specs.Prelude.{◌≡◌, ℕ, ◌+◌, ◌^◌, ◌<◌, ◌≤◌, Bool, true, cond, ◌&&◌, List, ◌++◌, map, length, drop, replicate, Ok, Err, Result, ◌==◌, slice_index, slice_set}
-use Rattle.std.specs.List.{AllByRecursion as All}
+use Rattle.std.specs.List.{AllByRecursion}
 use Rattle.numbers.specs.declared.sector.Address.{Address}
 use Rattle.numbers.specs.declared.name.Name.{Name}
 use Rattle.layout.specs.declared.header.Header.{Header}
@@ -93,8 +93,8 @@ header_in own size c = linked own size (read_header c)
 pub record IsHeader (h : Header) : Type 0 where
   pub name : length h.name.bytes ≡ name_size
   pub date : h.date < 2 ^ 32
-  pub tables : (length h.tables ≡ most_tables) × All (λ w. w < 2 ^ 32) (numbers h.tables)
-  pub sectors : (length h.sectors ≡ near_sectors) × All (λ w. w < 2 ^ 32) (numbers h.sectors)
+  pub tables : (length h.tables ≡ most_tables) × AllByRecursion (λ w. w < 2 ^ 32) (numbers h.tables)
+  pub sectors : (length h.sectors ≡ near_sectors) × AllByRecursion (λ w. w < 2 ^ 32) (numbers h.sectors)
 
 -- first sectors and headers are one to one; the data are left as they are
 pub record FirstSectors : Type 0 where

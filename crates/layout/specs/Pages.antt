@@ -1,6 +1,6 @@
 -- Directory pages.
 use Rattle.std.specs.Prelude.{◌≡◌, ℕ, zero, suc, ◌-◌, ◌^◌, ◌<◌, ◌≤◌, Bool, true, false, cond, not, List, [], ◌∷◌, ◌++◌, length, take, replicate, Some, None, Ok, Err, Option, Result}
-use Rattle.std.specs.List.{AllByRecursion as All}
+use Rattle.std.specs.List.{AllByRecursion}
 use Rattle.numbers.specs.declared.sector.Sector.{Sector}
 use Rattle.layout.specs.declared.entry.Entry.{Entry}
 use Rattle.layout.specs.declared.entry.PageHead.{PageHead}
@@ -78,7 +78,7 @@ pub record EntryFits (size : ℕ) (leaf : Bool) (e : Entry) : Type 0 where
 pub record PageFits (kind : PageKind) (size : ℕ) (p : PageData) : Type 0 where
   pub count : count_fits kind (no_page p.first) (length p.rows) ≡ true
   pub first : LinkFits size (no_page p.first) p.first
-  pub entries : All (EntryFits size (no_page p.first)) p.rows
+  pub entries : AllByRecursion (EntryFits size (no_page p.first)) p.rows
 
 -- sectors and pages are one to one, but for the entries that a page does not use
 pub record DirectoryPages : Type 0 where

@@ -1,6 +1,6 @@
 -- A sector as its bytes, and the numbers that are stored in it.
 use Rattle.std.specs.Prelude.{◌≡◌, ℕ, zero, suc, ◌+◌, ◌*◌, ◌/◌, ◌%◌, ◌^◌, ◌<◌, ◌≤◌, ◌⊎◌, List, [], ◌∷◌, ◌++◌, length, take, drop, replicate, slice_index}
-use Rattle.std.specs.List.{AllByRecursion as All}
+use Rattle.std.specs.List.{AllByRecursion}
 pub use Rattle.numbers.specs.Lengths.{sector_size}
 
 abbrev pub Contents : Type 0
@@ -41,7 +41,7 @@ written c i bs = take i c ++ (bs ++ drop (i + length bs) c)
 
 -- every byte fits 8 bits
 abbrev pub Bytes : Contents → Type 0
-Bytes c = All (λ b. b < 256) c
+Bytes c = AllByRecursion (λ b. b < 256) c
 
 -- what holds of stored numbers
 pub record StoredNumbers : Type 0 where

@@ -115,7 +115,7 @@ breaks l (Names rs) = l
 -- what an answer is to the ledger: accepted, with the slot that it tells; refused; or 3
 pub data Fate : Type 0 where
   counted : ℕ → Fate
-  turned-away broken-off : Fate
+  turned_away broken_off : Fate
 
 abbrev pub fate : Answer → Fate
 fate Done = counted 0
@@ -124,14 +124,14 @@ fate (Riding r) = counted 0
 fate (HasRead k r b) = counted 0
 fate (Wrote n r) = counted 0
 fate (Named n rs) = counted 0
-fate (No r) = cond (is_three r) broken-off turned-away
-fate (NoRead f k r b) = broken-off
-fate (NoNames f k rs) = broken-off
+fate (No r) = cond (is_three r) broken_off turned_away
+fate (NoRead f k r b) = broken_off
+fate (NoNames f k rs) = broken_off
 
 abbrev pub followed : Ledger → Call → Fate → Ledger
 followed l c (counted s) = counts l s c
-followed l c turned-away = l
-followed l c broken-off = breaks l c
+followed l c turned_away = l
+followed l c broken_off = breaks l c
 
 -- the ledger after a call other than Format and Start
 abbrev pub follow : Ledger → Call → Answer → Ledger

@@ -3,4 +3,4 @@ use Rattle.disk.proofs.Images.{settles-over}
 use Rattle.disk.proofs.image.ImageDisk.settle.Goals as goal
 
 pub returns : goal.returns
-returns c = record { rule = settles-over _; done = record { answers = refl; leaves = refl; never-gone = tt; tail = refl } }
+returns c = record { rule = settles-over _; done = record { answers = refl; leaves = refl; never_gone = tt; tail = refl } }
