@@ -1,4 +1,3 @@
-pub mod Reaches
 pub mod Steps
 pub mod Judges
 pub mod Stops

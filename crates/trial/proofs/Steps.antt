@@ -7,7 +7,6 @@ use Rattle.disk.specs.Meaning.{Contents, Meaning, In, Sound}
 use Rattle.disk.specs.Rules.{Answer, Puts, Settles}
 use Rattle.plan.specs.declared.step.Step.{Step}
 use Rattle.plan.specs.declared.step.Step.TheVariants.{Put, Settle}
-use Rattle.trial.specs.declared.ending.Ending.TheVariants.{Finished, Stopped}
 use Rattle.trial.specs.Endings.{is_put}
 use Rattle.trial.specs.Leaves.{newest, after, leaves}
 use Rattle.trial.specs.Runs.{Rule, Fresh, Allows, Ran}
@@ -113,7 +112,7 @@ module _ (m₀ m m' : Meaning) (ss : List Step) (kept : Kept m₀ ss m) where
   refused-settle f p fresh k y lt i = kept.allows fresh k y lt (p.fewer k y (inside lt) i)
 
 module _ (m₀ m m' : Meaning) (ss : List Step) (i : ℕ) (f : DiskFault) (lt : i < length ss) (kept : Kept m₀ (take i ss) m) where
-  stopped-at : (s : Step) → get_or ss i Settle ≡ s → Rule s m (Err f) m' → Ran m₀ ss (Stopped i f) m'
+  stopped-at : (s : Step) → get_or ss i Settle ≡ s → Rule s m (Err f) m' → Ran m₀ ss (Err (record { step = i; fault = f })) m'
   stopped-at (Put n x) is p = record {
     size = p.size ∙ kept.size;
     sound = p.sound;
@@ -131,10 +130,10 @@ module _ (m₀ m m' : Meaning) (ss : List Step) (i : ℕ) (f : DiskFault) (lt : 
         subst (λ l. Allows m₀ l m') (sym e) (refused-settle m₀ m m' (take i ss) kept f p fresh);
   }
 
-  pub ran-stopped : Rule (get_or ss i Settle) m (Err f) m' → Ran m₀ ss (Stopped i f) m'
+  pub ran-stopped : Rule (get_or ss i Settle) m (Err f) m' → Ran m₀ ss (Err (record { step = i; fault = f })) m'
   ran-stopped p = stopped-at (get_or ss i Settle) refl p
 
-pub ran-finished : (m₀ m : Meaning) (ss : List Step) (i : ℕ) → length ss ≡ i → Kept m₀ (take i ss) m → Ran m₀ ss Finished m
+pub ran-finished : (m₀ m : Meaning) (ss : List Step) (i : ℕ) → length ss ≡ i → Kept m₀ (take i ss) m → Ran m₀ ss (Ok tt) m
 ran-finished m₀ m ss i e kept = record {
   size = kept.size;
   sound = kept.sound;

@@ -8,9 +8,8 @@ use Rattle.disk.specs.Rules.{Answer, Request, Shows, Fewer, Restarts}
 use Rattle.disk.specs.Rules.Request.{restarting}
 use Rattle.plan.specs.Plans.{blank}
 use Rattle.plan.specs.declared.step.Step.{Step}
-use Rattle.trial.specs.declared.ending.Ending.{Ending}
 use Rattle.trial.specs.declared.stop.Report.{Report}
-use Rattle.trial.specs.Endings.{reach}
+use Rattle.trial.specs.Endings.{Ending, reach}
 use Rattle.trial.specs.Leaves.{leaves, among, failing}
 use Rattle.trial.specs.Runs.{Ended, Ran}
 use Rattle.trial.specs.Stops.{wrong, Looks, Counts, StopAnswers}

@@ -1,19 +1,18 @@
--- How far a run of a plan reached.
-use Rattle.std.specs.Prelude.{ℕ, ◌+◌, Bool, true, false, cond, List, length, slice_index_or}
+-- How a run of a plan ended, and how far it reached.
+use Rattle.std.specs.Prelude.{ℕ, ◌+◌, Bool, true, false, cond, List, length, slice_index_or, Ok, Err, Result}
 use Rattle.plan.specs.declared.step.Step.{Step}
 use Rattle.plan.specs.declared.step.Step.TheVariants.{Put, Settle}
-use Rattle.trial.specs.declared.ending.Ending.{Ending}
-use Rattle.trial.specs.declared.ending.Ending.TheVariants.{Finished, Stopped}
+use Rattle.trial.specs.declared.ending.Stop.{Stop}
 
-abbrev pub is_finished : Ending → Bool
-is_finished Finished = true
-is_finished (Stopped i f) = false
+-- at its end, or at a step that was refused
+abbrev pub Ending : Type 0
+Ending = Result (Unit {0}) Stop
 
 abbrev pub is_put : Step → Bool
 is_put (Put n x) = true
 is_put Settle = false
 
--- how many steps may have come down: where step i was refused, a put may have come down all the same, a settle counts for nothing
+-- how many steps may have come down: where a step was refused, a put may have come down all the same, a settle counts for nothing
 abbrev pub reach : Ending → List Step → ℕ
-reach Finished ss = length ss
-reach (Stopped i f) ss = cond (is_put (slice_index_or ss i Settle)) (i + 1) i
+reach (Ok _) ss = length ss
+reach (Err p) ss = cond (is_put (slice_index_or ss p.step Settle)) (p.step + 1) p.step

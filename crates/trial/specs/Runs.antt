@@ -5,9 +5,7 @@ use Rattle.disk.specs.Rules.{Answer, Request, Settled, Puts, Settles}
 use Rattle.disk.specs.Rules.Request.{putting, settling}
 use Rattle.plan.specs.declared.step.Step.{Step}
 use Rattle.plan.specs.declared.step.Step.TheVariants.{Put, Settle}
-use Rattle.trial.specs.declared.ending.Ending.{Ending}
-use Rattle.trial.specs.declared.ending.Ending.TheVariants.{Finished, Stopped}
-use Rattle.trial.specs.Endings.{reach}
+use Rattle.trial.specs.Endings.{Ending, reach}
 use Rattle.trial.specs.Leaves.{leaves}
 
 -- what a step asks of a disk, and the rule that it goes by
@@ -25,10 +23,10 @@ module _ {D : Type 0} (does : D → Request → Answer → D → Type 0) where
     none : {d : D} → Accepted d [] d
     more : {d d₁ d' : D} {ss : List Step} (s : Step) → Accepted d ss d₁ → does d₁ (request s) (Ok tt) d' → Accepted d (ss ++ (s ∷ [])) d'
 
-  -- all steps were accepted; or those before step i, which was refused with this fault
+  -- all steps were accepted; or those before the one at which the run was stopped, which was refused with this fault
   abbrev pub Ended : List Step → D → Ending → D → Type 0
-  Ended ss d Finished d' = Accepted d ss d'
-  Ended ss d (Stopped i f) d' = (i < length ss) × ((d₁ : D) × Accepted d (take i ss) d₁ × does d₁ (request (slice_index_or ss i Settle)) (Err f) d')
+  Ended ss d (Ok _) d' = Accepted d ss d'
+  Ended ss d (Err p) d' = (p.step < length ss) × ((d₁ : D) × Accepted d (take p.step ss) d₁ × does d₁ (request (slice_index_or ss p.step Settle)) (Err p.fault) d')
 
 -- a disk that a plan can start from: live, and nothing but what is shown can be left
 pub record Fresh (m : Meaning) : Type 0 where

@@ -6,9 +6,8 @@ use Rattle.disk.specs.Rules.{Answer, Request, Shows, Fewer}
 use Rattle.disk.specs.Rules.Request.{restarting}
 use Rattle.plan.specs.Plans.{blank}
 use Rattle.plan.specs.declared.step.Step.{Step}
-use Rattle.trial.specs.declared.ending.Ending.{Ending}
 use Rattle.trial.specs.declared.stop.Report.{Report}
-use Rattle.trial.specs.Endings.{reach}
+use Rattle.trial.specs.Endings.{Ending, reach}
 use Rattle.trial.specs.Leaves.{leaves, among, failing}
 use Rattle.trial.specs.Runs.{Ended, Fresh}
 

@@ -1,44 +1,48 @@
 ghost use Rattle.std.specs.Prelude.{◌≡◌, List, [], ◌∷◌};
-ghost use Rattle.std.specs.Str.{bytes_eq};
 ghost use Rattle.disk.specs.Meaning.{Contents};
 ghost use Rattle.plan.specs.Plans.{blank};
-ghost use Rattle.trial.specs.Leaves.{after, leaves, among};
+ghost use Rattle.trial.specs.Leaves.{after as allowed_after, leaves, among};
 ghost use Rattle.trial.specs.Judges.{Knows};
 
 use plan::step::Step;
 
 /// What is known of a sector's contents, step by step: whether they are the newest put, and whether they are any that is allowed.
-#[derive(Clone, Copy)]
+#[derive(Clone, Copy, PartialEq, Eq, Debug)]
 pub struct Judged {
     newest: bool,
     allowed: bool,
 }
 
-fn is_blank(shown: &[u8; 1024]) -> bool
-    ensures { result ≡ bytes_eq blank shown.now }
-{
-    fields::same(&[0; 1024], shown)
-}
-
-/// What is known after one step more.
-fn next(judged: Judged, step: &Step, sector: usize, shown: &[u8; 1024]) -> Judged
-    ensures { (xs : List Contents) → Knows judged shown.now xs → Knows result shown.now (after sector xs step.now) }
-{
-    match step {
-        Step::Put { sector: n, bytes } => {
-            if *n != sector {
-                return judged;
-            }
-            let newest = fields::same(bytes, shown);
-            Judged {
-                newest,
-                allowed: newest || judged.allowed,
-            }
+impl Judged {
+    /// What is known of a sector that was blank at first.
+    fn at_first(shown: &[u8; 1024]) -> Judged
+        ensures { Knows result shown.now (blank ∷ []) }
+    {
+        let blank = [0; 1024] == *shown;
+        Judged {
+            newest: blank,
+            allowed: blank,
         }
-        Step::Settle => Judged {
-            newest: judged.newest,
-            allowed: judged.newest,
-        },
+    }
+
+    /// What is known after one step more.
+    fn after(self, step: &Step, sector: usize, shown: &[u8; 1024]) -> Judged
+        ensures { (xs : List Contents) → Knows self shown.now xs → Knows result shown.now (allowed_after sector xs step.now) }
+    {
+        match step {
+            Step::Put { sector: n, bytes } if *n == sector => {
+                let newest = bytes == shown;
+                Judged {
+                    newest,
+                    allowed: newest || self.allowed,
+                }
+            }
+            Step::Put { .. } => self,
+            Step::Settle => Judged {
+                allowed: self.newest,
+                ..self
+            },
+        }
     }
 }
 
@@ -46,13 +50,9 @@ fn next(judged: Judged, step: &Step, sector: usize, shown: &[u8; 1024]) -> Judge
 pub fn allowed(steps: &[Step], sector: usize, shown: &[u8; 1024]) -> bool
     ensures { result ≡ among shown.now (leaves sector (blank ∷ []) steps.now) }
 {
-    let blank = is_blank(shown);
-    let mut judged = Judged {
-        newest: blank,
-        allowed: blank,
-    };
-    for i in 0..steps.len() {
-        judged = next(judged, &steps[i], sector, shown);
+    let mut judged = Judged::at_first(shown);
+    for step in steps {
+        judged = judged.after(step, sector, shown);
     }
     judged.allowed
 }

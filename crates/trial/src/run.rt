@@ -1,6 +1,6 @@
 ghost use Rattle.trial.specs.Runs.{request, Rule, Ended, Ran};
 
-use crate::ending::Ending;
+use crate::ending::{Ending, Stop};
 use disk::Disk;
 use disk::fault::DiskFault;
 use plan::step::Step;
@@ -22,11 +22,10 @@ pub fn run<D: Disk>(disk: &mut D, steps: &[Step]) -> Ending
     ensures ran { Ran (D.Disk.meaning disk.old) steps.now result (D.Disk.meaning disk.new) }
 {
     let _ = disk.size(); // tells what holds of every disk, also where no step is asked
-    for i in 0..steps.len() {
-        match ask(disk, &steps[i]) {
-            Ok(()) => {}
-            Err(fault) => return Ending::Stopped { step: i, fault },
+    for (i, step) in steps.iter().enumerate() {
+        if let Err(fault) = ask(disk, step) {
+            return Err(Stop { step: i, fault });
         }
     }
-    Ending::Finished
+    Ok(())
 }

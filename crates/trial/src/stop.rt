@@ -1,6 +1,7 @@
+ghost use Rattle.std.specs.Prelude.{◌≡◌, is_ok};
 ghost use Rattle.trial.specs.Stops.{Looks, Counts, StopAnswers};
 
-use crate::ending::Ending;
+use crate::ending::{Ending, reach};
 use crate::judge::allowed;
 use crate::run::run;
 use disk::Disk;
@@ -8,10 +9,19 @@ use disk::fault::DiskFault;
 use plan::step::Step;
 
 /// How a run of a plan ended, and how many sectors show something after the restart that the plan does not allow.
-#[derive(Clone, Copy, Debug)]
+#[derive(Clone, Copy, PartialEq, Eq, Debug)]
 pub struct Report {
     pub ending: Ending,
     pub wrong: usize,
+}
+
+impl Report {
+    /// Whether the plan ran to its end.
+    pub fn is_finished(&self) -> bool
+        ensures { result ≡ is_ok self.now.ending }
+    {
+        self.ending.is_ok()
+    }
 }
 
 /// Whether sector `k` shows what these steps allow there.
@@ -42,8 +52,8 @@ pub fn power_stop<D: Disk>(disk: &mut D, steps: &[Step]) -> Result<Report, DiskF
     ensures { StopAnswers D.Disk.meaning D.Disk.does disk.old steps.now result disk.new }
 {
     let ending = run(disk, steps);
-    let reach = ending.reach(steps);
+    let came_down = &steps[..reach(&ending, steps)];
     disk.restart()?;
-    let wrong = count_wrong(disk, &steps[0..reach])?;
+    let wrong = count_wrong(disk, came_down)?;
     Ok(Report { ending, wrong })
 }

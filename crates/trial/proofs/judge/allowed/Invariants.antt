@@ -4,5 +4,5 @@ use Rattle.trial.specs.Leaves.{leaves}
 use Rattle.trial.specs.Judges.{Knows}
 use Rattle.trial.proofs.judge.allowed.Given as goal
 
-abbrev pub invariant-loop-i : goal.invariant-loop-i
-invariant-loop-i l = Knows l.judged l.shown (leaves l.sector (blank ∷ []) (take l.i l.steps))
+abbrev pub invariant-loop-step : goal.invariant-loop-step
+invariant-loop-step l = Knows l.judged l.shown (leaves l.sector (blank ∷ []) (take l.step-index l.steps))
