@@ -2,7 +2,8 @@
 use Rattle.std.proofs.Common.{◌≡◌, ℕ, zero, suc, ◌+◌, ◌*◌, ◌/◌, ◌%◌, ◌<◌, ◌≤◌, ◌⊎◌, List, [], ◌∷◌, ◌++◌, map, length, get_or, take, drop, sym, refl, ap, ◌∙◌, ⊎_elim, mod-lt, mod-eq_of_lt, arith, lit<, length-append, length-drop, length-take}
 use borrow.Rule.Slice.PartMut.{put_mid}
 use lib.ListN.{length-map}
-use Rattle.std.proofs.lemmas.List.{drop_at, take_at, drop-take, drop-drop}
+use Rattle.std.specs.List.{take-map}
+use Rattle.std.proofs.lemmas.List.{drop_at, take_at, drop-take, drop-drop, drop-map}
 use Rattle.std.proofs.lemmas.Slice.{take-put_mid_below, drop-put_mid}
 use Rattle.disk.specs.Meaning.{Whole}
 use Rattle.disk.specs.Sectors.{count, sector, written}
@@ -32,23 +33,10 @@ whole-sector bytes n h =
       bytes = low-bytes (take 1024 (drop (1024 * n) bytes));
     }
 
--- a part of bytes is bytes
-drop-bytes : (k : ℕ) (x : List ℕ) → ((i : ℕ) → get_or x i 0 < 256) → (i : ℕ) → get_or (drop k x) i 0 < 256
-drop-bytes zero x h i = h i
-drop-bytes (suc k) [] h i = lit< tt
-drop-bytes (suc k) (b ∷ x) h i = drop-bytes k x (λ j. h (suc j)) i
-
-take-bytes : (k : ℕ) (x : List ℕ) → ((i : ℕ) → get_or x i 0 < 256) → (i : ℕ) → get_or (take k x) i 0 < 256
-take-bytes zero x h i = lit< tt
-take-bytes (suc k) [] h i = lit< tt
-take-bytes (suc k) (b ∷ x) h zero = h 0
-take-bytes (suc k) (b ∷ x) h (suc i) = take-bytes k x (λ j. h (suc j)) i
-
 -- a sector is read as it lies
 pub sector-is : (bytes : List ℕ) (n : ℕ) → ((i : ℕ) → get_or bytes i 0 < 256) → take 1024 (drop (1024 * n) bytes) ≡ sector bytes n
 unfolding sector
-sector-is bytes n h =
-    sym (bytes_low (take 1024 (drop (1024 * n) bytes)) (take-bytes 1024 (drop (1024 * n) bytes) (drop-bytes (1024 * n) bytes h)))
+sector-is bytes n h = ap (λ l. take 1024 (drop (1024 * n) l)) (sym (bytes_low bytes h)) ∙ simp (drop-map, take-map) refl
 
 apart : (k n : ℕ) → (k ≡ n → ⊥) → (k < n) ⊎ (n < k)
 apart k n ne = grind arith

@@ -26,22 +26,6 @@ module _ (bytes : List ℕ) where
   settled-over : Settled (over bytes)
   settled-over k x h i = only i
 
-  pub does-outside-get : {n : ℕ} {f : DiskFault} → f ≡ outside is_image n → count bytes ≤ n → ImageDoes bytes (getting n) (Err f) bytes
-  does-outside-get {n} e h = record {
-    answers = cond_above n (count bytes) _ _ _ h (ap Err e);
-    leaves = refl;
-    never_gone = ap (λ (g : DiskFault). g.cause) e;
-    tail = refl;
-  }
-
-  pub does-outside-put : {n : ℕ} {x : Contents} {f : DiskFault} → f ≡ outside is_image n → count bytes ≤ n → ImageDoes bytes (putting n x) (Err f) bytes
-  does-outside-put {n} e h = record {
-    answers = cond_above n (count bytes) _ _ _ h (ap Err e);
-    leaves = cond_above n (count bytes) _ _ _ h refl;
-    never_gone = ap (λ (g : DiskFault). g.cause) e;
-    tail = refl;
-  }
-
   pub gets-over : (n : ℕ) (old new : Contents) → n < count bytes → new ≡ sector bytes n → Gets (over bytes) n old (Ok tt) (over bytes) new
   gets-over n old new h e = record {
     answer = record { inside = h; was = refl; live = refl; filled = e };
@@ -51,9 +35,6 @@ module _ (bytes : List ℕ) where
     calm = record { stays = λ c. c; accepts = λ c due. refl };
     sound = sound-over;
   }
-
-  pub does-get : (n : ℕ) → n < count bytes → ImageDoes bytes (getting n) (Ok tt) bytes
-  does-get n h = record { answers = cond_below n (count bytes) _ _ h; leaves = refl; never_gone = tt; tail = refl }
 
   pub settles-over : Settles (over bytes) (Ok tt) (over bytes)
   settles-over = record {

@@ -1,4 +1,5 @@
 pub mod Faults
+pub mod Texts
 pub mod Meaning
 pub mod Rules
 pub mod Laws

@@ -1,5 +1,9 @@
-ghost use Rattle.std.specs.Prelude.{◌≡◌};
+ghost use Rattle.std.specs.Prelude.{◌≡◌, Some};
 ghost use Rattle.disk.specs.Faults.{outside as is_outside, gone as is_gone};
+ghost use Rattle.disk.specs.Texts.{layer_text, cause_text, fault_text};
+
+use std::error::Error;
+use std::fmt;
 
 /// The kind of disk that an answer came from.
 #[derive(Clone, Copy, PartialEq, Eq, Debug)]
@@ -47,3 +51,36 @@ impl DiskFault {
         }
     }
 }
+
+impl fmt::Display for Layer {
+    ghost output = { λ layer. Some (layer_text layer) };
+
+    fn fmt<W: fmt::Write>(&self, f: &mut fmt::Formatter<W>) -> fmt::Result {
+        f.write_str(match self {
+            Layer::Image => "image",
+            Layer::Hold => "hold",
+            Layer::Fuse => "fuse",
+        })
+    }
+}
+
+impl fmt::Display for Cause {
+    ghost output = { λ cause. Some (cause_text cause) };
+
+    fn fmt<W: fmt::Write>(&self, f: &mut fmt::Formatter<W>) -> fmt::Result {
+        f.write_str(match self {
+            Cause::Outside => "outside",
+            Cause::Gone => "gone",
+        })
+    }
+}
+
+impl fmt::Display for DiskFault {
+    ghost output = { λ fault. Some (fault_text fault) };
+
+    fn fmt<W: fmt::Write>(&self, f: &mut fmt::Formatter<W>) -> fmt::Result {
+        write!(f, "{} {} {}", self.cause, self.layer, self.sector)
+    }
+}
+
+impl Error for DiskFault {}

@@ -2,7 +2,7 @@ ghost use Rattle.std.specs.Prelude.{◌≡◌, ℕ, ◌+◌, ◌*◌, ◌/◌, �
 ghost use Rattle.disk.specs.Meaning.{Whole};
 ghost use Rattle.disk.specs.Sectors.{count, over, sector, written, ImageDoes};
 
-use crate::Disk;
+use crate::{Disk, SECTOR_SIZE, SectorBytes};
 use crate::fault::{DiskFault, Layer};
 
 /// A disk over lent bytes: sector `n` is the part that starts at byte 1024 × n.
@@ -12,16 +12,9 @@ pub struct Image<'a> {
     bytes: &'a mut [u8],
 }
 
-/// Fills `into` with `part`.
-fn copy_out(part: &[u8], into: &mut [u8; 1024])
-    requires { length part.now ≡ 1024 }
-    ensures { into.new ≡ part.now }
-{
-    into.copy_from_slice(part);
-}
-
 /// Fills `part` with `bytes`.
-fn copy_in(part: &mut [u8], bytes: &[u8; 1024])
+// `as_chunks_mut` would lend sector `n` too, but says nothing of what the slice ends as.
+fn copy_in(part: &mut [u8], bytes: &SectorBytes)
     requires { length part.old ≡ 1024 }
     ensures { part.new ≡ bytes.now }
 {
@@ -29,20 +22,22 @@ fn copy_in(part: &mut [u8], bytes: &[u8; 1024])
 }
 
 /// Reads sector `n` of `all`.
-fn read_sector(all: &[u8], n: usize, into: &mut [u8; 1024])
+fn read_sector(all: &[u8], n: usize, into: &mut SectorBytes)
     requires { n < count all.now }
     ensures { into.new ≡ sector all.now n }
 {
-    copy_out(&all[1024 * n..1024 * n + 1024], into);
+    let start = SECTOR_SIZE * n;
+    into.copy_from_slice(&all[start..start + SECTOR_SIZE]);
 }
 
 /// Writes sector `n` of `all`.
-fn write_sector(all: &mut [u8], n: usize, bytes: &[u8; 1024])
+fn write_sector(all: &mut [u8], n: usize, bytes: &SectorBytes)
     requires { n < count all.old }
     ensures after { all.new ≡ written all.old n bytes.now }
     ensures whole { Whole bytes.now }
 {
-    copy_in(&mut all[1024 * n..1024 * n + 1024], bytes);
+    let start = SECTOR_SIZE * n;
+    copy_in(&mut all[start..start + SECTOR_SIZE], bytes);
 }
 
 impl Image<'_> {
@@ -53,7 +48,7 @@ impl Image<'_> {
         Image { bytes }
     }
 
-    fn read(&self, n: usize, into: &mut [u8; 1024])
+    fn read(&self, n: usize, into: &mut SectorBytes)
         requires { n < count self.now.bytes.now }
         ensures { into.new ≡ sector self.now.bytes.now n }
     {
@@ -67,14 +62,14 @@ impl Disk for Image<'_> {
     ghost does = { λ d q r e. ImageDoes d.bytes.now q r e.bytes.now };
 
     fn size(&self) -> usize {
-        self.bytes.len() / 1024
+        self.bytes.len() / SECTOR_SIZE
     }
 
     fn live(&self) -> bool {
         true
     }
 
-    fn get(&mut self, n: usize, into: &mut [u8; 1024]) -> Result<(), DiskFault> {
+    fn get(&mut self, n: usize, into: &mut SectorBytes) -> Result<(), DiskFault> {
         if n >= self.size() {
             return Err(DiskFault::outside(Layer::Image, n));
         }
@@ -82,7 +77,7 @@ impl Disk for Image<'_> {
         Ok(())
     }
 
-    fn put(&mut self, n: usize, bytes: &[u8; 1024]) -> Result<(), DiskFault> {
+    fn put(&mut self, n: usize, bytes: &SectorBytes) -> Result<(), DiskFault> {
         if n >= self.size() {
             return Err(DiskFault::outside(Layer::Image, n));
         }

@@ -11,6 +11,12 @@ pub mod laws;
 
 use fault::DiskFault;
 
+/// How many bytes a sector has.
+pub const SECTOR_SIZE: usize = 1024;
+
+/// The bytes of a sector.
+pub type SectorBytes = [u8; SECTOR_SIZE];
+
 /// A disk of sectors of 1,024 bytes, numbered from 0.
 ///
 /// `meaning` is what the disk is to whoever uses it, and the rule of each call speaks of it alone.
@@ -30,12 +36,12 @@ pub trait Disk {
         ensures { Lives (meaning self.now) result (meaning self.now) };
 
     /// Fills `into` with what sector `n` shows.
-    fn get(&mut self, n: usize, into: &mut [u8; 1024]) -> Result<(), DiskFault>
+    fn get(&mut self, n: usize, into: &mut SectorBytes) -> Result<(), DiskFault>
         ensures rule { Gets (meaning self.old) n into.old result (meaning self.new) into.new }
         ensures done { does self.old (getting n) result self.new };
 
     /// Makes `bytes` what sector `n` shows.
-    fn put(&mut self, n: usize, bytes: &[u8; 1024]) -> Result<(), DiskFault>
+    fn put(&mut self, n: usize, bytes: &SectorBytes) -> Result<(), DiskFault>
         ensures rule { Puts (meaning self.old) n bytes.now result (meaning self.new) }
         ensures done { does self.old (putting n bytes.now) result self.new };
 
