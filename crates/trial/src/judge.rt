@@ -17,7 +17,7 @@ pub struct Judged {
 fn is_blank(shown: &[u8; 1024]) -> bool
     ensures { result ≡ bytes_eq blank shown.now }
 {
-    fields::same(&[0; 1024], shown)
+    [0; 1024] == *shown
 }
 
 /// What is known after one step more.
@@ -29,7 +29,7 @@ fn next(judged: Judged, step: &Step, sector: usize, shown: &[u8; 1024]) -> Judge
             if *n != sector {
                 return judged;
             }
-            let newest = fields::same(bytes, shown);
+            let newest = bytes == shown;
             Judged {
                 newest,
                 allowed: newest || judged.allowed,

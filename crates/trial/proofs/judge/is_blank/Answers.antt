@@ -1,6 +1,7 @@
+use Rattle.std.proofs.Common.{rules}
 use Rattle.plan.specs.Plans.{blank}
 use Rattle.trial.proofs.judge.is_blank.Goals as goal
 
 pub returns : goal.returns
 unfolding blank
-returns c = c.same.ensures
+returns c = search rules
