@@ -1,63 +1,34 @@
 //! Lines of text in fields that commas part, and the numbers in them.
 #![tactic(auto)]
 
-ghost use Rattle.std.specs.Prelude.{◌≡◌, ◌≤◌, true, false, length, Some, None};
-ghost use Rattle.std.specs.Str.{bytes_eq};
-ghost use Rattle.fields.specs.Fields.{comma, parted, field, rest, digit, number_of};
+ghost use Rattle.std.specs.Prelude.{◌≡◌, true, false, ◌==◌, position, MatchOption};
+ghost use Rattle.fields.specs.Fields.{parted, field, rest, number_of};
 
-/// Whether these are the same bytes.
-pub fn same(a: &[u8], b: &[u8]) -> bool
-    ensures { result ≡ bytes_eq a.now b.now }
+/// Where the first comma stands.
+fn find_comma(s: &[u8]) -> Option<usize>
+    ensures { result ≡ position (λ b. b == 44) s.now }
 {
-    a == b
-}
-
-/// Where the first comma stands, or the length.
-fn find_comma(s: &[u8]) -> usize
-    ensures { (result ≡ comma s.now) × (result ≤ length s.now) }
-{
-    let mut i = 0;
-    while i < s.len() {
-        if s[i] == b',' {
-            return i;
-        }
-        i += 1;
-    }
-    i
+    s.iter().position(|b| *b == b',')
 }
 
 /// The first field and what follows its comma, if there is a comma.
 pub fn split(s: &[u8]) -> Option<(&[u8], &[u8])>
-    ensures { elim result [
-      | Some p ↦ (parted s.now ≡ true) × (p.0.now ≡ field s.now) × (p.1.now ≡ rest s.now)
-      | None ↦ parted s.now ≡ false
-    ] }
+    ensures { MatchOption result (parted s.now ≡ false) (λ p. (parted s.now ≡ true) × (p.0.now ≡ field s.now) × (p.1.now ≡ rest s.now)) }
 {
-    let i = find_comma(s);
-    if i < s.len() {
-        Some((&s[0..i], &s[i + 1..]))
-    } else {
-        None
-    }
-}
-
-fn is_digit(b: u8) -> bool
-    ensures { result ≡ digit b }
-{
-    matches!(b as char, '0'..='9')
+    let comma = find_comma(s)?;
+    Some((&s[..comma], &s[comma + 1..]))
 }
 
 /// The number that 1 to 7 digits write.
 pub fn number(s: &[u8]) -> Option<u32>
     ensures { result ≡ number_of s.now }
 {
-    if s.len() == 0 || s.len() > 7 {
+    if !(1..=7).contains(&s.len()) {
         return None;
     }
     let mut n = 0u32;
-    for i in 0..s.len() {
-        let b = s[i];
-        if !is_digit(b) {
+    for b in s {
+        if !b.is_ascii_digit() {
             return None;
         }
         n = 10 * n + (b - b'0') as u32;

@@ -1,5 +1,6 @@
 -- What a line of a plan says.
-use Rattle.std.specs.Prelude.{ℕ, Bool, true, cond, ◌&&◌, List, [], ◌∷◌, Some, None, Ok, Err, codes, Option, Result, nat_le}
+use Rattle.std.specs.Prelude.{ℕ, Bool, cond, ◌&&◌, List, Some, None, Ok, Err, codes, Option, Result, nat_le}
+use Rattle.std.specs.List.{list_all}
 use Rattle.std.specs.Str.{bytes_eq}
 use Rattle.fields.specs.Fields.{parted, field, rest, number_of}
 use Rattle.plan.specs.declared.fault.LineFault.{LineFault}
@@ -18,12 +19,12 @@ pub data Said : Type 0 where
 
 -- space (byte 32) to tilde (126)
 abbrev pub printable : List ℕ → Bool
-printable [] = true
-printable (b ∷ bs) = (nat_le 32 b && nat_le b 126) && printable bs
+printable = list_all (λ b. nat_le 32 b && nat_le b 126)
 
-abbrev pub word_of : List ℕ → Word
+-- the word that these bytes are, or the refusal of what is none
+abbrev pub word_of : List ℕ → Result Word LineFault
 word_of s =
-    cond (bytes_eq s (codes "SIZE")) word.Size (cond (bytes_eq s (codes "PUT")) word.Put (cond (bytes_eq s (codes "SETTLE")) word.Settle word.Other))
+    cond (bytes_eq s (codes "SIZE")) (Ok word.Size) (cond (bytes_eq s (codes "PUT")) (Ok word.Put) (cond (bytes_eq s (codes "SETTLE")) (Ok word.Settle) (Err fault.Word)))
 
 -- SIZE,n
 abbrev pub size_is : Option ℕ → Said
@@ -42,17 +43,17 @@ abbrev pub put_of : List ℕ → Said
 put_of s = cond (parted s) (put_is (number_of (field s)) (rest s)) (refused fault.Fields)
 
 -- a word before a comma, and a word alone
-abbrev pub after : Word → List ℕ → Said
-after word.Size s = size_of s
-after word.Put s = put_of s
-after word.Settle s = refused fault.Fields
-after word.Other s = refused fault.Word
+abbrev pub after : Result Word LineFault → List ℕ → Said
+after (Ok word.Size) s = size_of s
+after (Ok word.Put) s = put_of s
+after (Ok word.Settle) s = refused fault.Fields
+after (Err f) s = refused f
 
-abbrev pub alone : Word → Said
-alone word.Size = refused fault.Fields
-alone word.Put = refused fault.Fields
-alone word.Settle = settle
-alone word.Other = refused fault.Word
+abbrev pub alone : Result Word LineFault → Said
+alone (Ok word.Size) = refused fault.Fields
+alone (Ok word.Put) = refused fault.Fields
+alone (Ok word.Settle) = settle
+alone (Err f) = refused f
 
 abbrev pub said : List ℕ → Said
 said s = cond (parted s) (after (word_of (field s)) (rest s)) (alone (word_of s))

@@ -1,5 +1,10 @@
-ghost use Rattle.std.specs.Prelude.{◌≡◌};
+ghost use Rattle.std.specs.Prelude.{◌≡◌, Some};
 ghost use Rattle.plan.specs.Messages.{message_of};
+ghost use Rattle.plan.specs.declared.fault.LineFault.TheVariants.{Memory};
+
+use std::alloc::AllocFailed;
+use std::error::Error;
+use std::fmt;
 
 /// Why a line is no line of a plan.
 #[derive(Clone, Copy, PartialEq, Eq, Debug)]
@@ -15,12 +20,12 @@ pub enum LineFault {
     Memory,
 }
 
-impl LineFault {
-    /// What to tell whoever wrote the line.
-    pub fn message(self) -> &'static str
-        ensures { result.now ≡ message_of self }
-    {
-        match self {
+/// What to tell whoever wrote the line.
+impl fmt::Display for LineFault {
+    ghost output = { λ f. Some (message_of f) };
+
+    fn fmt<W: fmt::Write>(&self, f: &mut fmt::Formatter<W>) -> fmt::Result {
+        f.write_str(match self {
             LineFault::Word => "SIZE, PUT or SETTLE is expected",
             LineFault::Fields => "a field is missing, or there is one too many",
             LineFault::Number => "a number of 1 to 7 digits is expected",
@@ -30,6 +35,17 @@ impl LineFault {
             LineFault::Sector => "the sector is not below SIZE",
             LineFault::Text => "a text has at most 1024 bytes, from space to tilde",
             LineFault::Memory => "there is no memory for the plan",
-        }
+        })
+    }
+}
+
+impl Error for LineFault {}
+
+/// A step for which there is no memory is let go.
+impl<T: Drop> From<AllocFailed<T>> for LineFault {
+    ghost from_gives = { λ _ f. f ≡ Memory };
+
+    fn from(_failed: AllocFailed<T>) -> LineFault {
+        LineFault::Memory // a push fails for no other reason
     }
 }

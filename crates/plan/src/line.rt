@@ -1,10 +1,10 @@
 ghost use Rattle.std.specs.Prelude.{◌≡◌};
-ghost use Rattle.plan.specs.Lines.{printable, word_of, put_of, size_of, said, told};
+ghost use Rattle.plan.specs.Lines.{word_of, put_of, size_of, said, told};
 
 use crate::fault::LineFault;
 
 /// A line of a plan, with its text as a part of the line.
-#[derive(Clone, Copy)]
+#[derive(Clone, Copy, PartialEq, Eq, Debug)]
 pub enum Line<'a> {
     Size(u32),
     Put { sector: u32, text: &'a [u8] },
@@ -12,25 +12,25 @@ pub enum Line<'a> {
 }
 
 /// The first word of a line.
-#[derive(Clone, Copy)]
+#[derive(Clone, Copy, PartialEq, Eq, Debug)]
 pub enum Word {
     Size,
     Put,
     Settle,
-    Other,
 }
 
-fn first_word(s: &[u8]) -> Word
-    ensures { result ≡ word_of s.now }
-{
-    if fields::same(s, b"SIZE") {
-        Word::Size
-    } else if fields::same(s, b"PUT") {
-        Word::Put
-    } else if fields::same(s, b"SETTLE") {
-        Word::Settle
-    } else {
-        Word::Other
+impl<'a> TryFrom<&'a [u8]> for Word {
+    type Error = LineFault;
+
+    ghost try_from_gives = { λ s r. r ≡ word_of s.now };
+
+    fn try_from(s: &'a [u8]) -> Result<Word, LineFault> {
+        match s {
+            b"SIZE" => Ok(Word::Size),
+            b"PUT" => Ok(Word::Put),
+            b"SETTLE" => Ok(Word::Settle),
+            _ => Err(LineFault::Word),
+        }
     }
 }
 
@@ -38,9 +38,7 @@ fn first_word(s: &[u8]) -> Word
 fn size_line<'a>(s: &'a [u8]) -> Result<Line<'a>, LineFault>
     ensures { told result ≡ size_of s.now }
 {
-    let Some(n) = fields::number(s) else {
-        return Err(LineFault::Number);
-    };
+    let n = fields::number(s).ok_or(LineFault::Number)?;
     Ok(Line::Size(n))
 }
 
@@ -48,12 +46,8 @@ fn size_line<'a>(s: &'a [u8]) -> Result<Line<'a>, LineFault>
 fn put_line<'a>(s: &'a [u8]) -> Result<Line<'a>, LineFault>
     ensures { told result ≡ put_of s.now }
 {
-    let Some((first, text)) = fields::split(s) else {
-        return Err(LineFault::Fields);
-    };
-    let Some(sector) = fields::number(first) else {
-        return Err(LineFault::Number);
-    };
+    let (first, text) = fields::split(s).ok_or(LineFault::Fields)?;
+    let sector = fields::number(first).ok_or(LineFault::Number)?;
     Ok(Line::Put { sector, text })
 }
 
@@ -62,17 +56,14 @@ pub fn parse<'a>(line: &'a [u8]) -> Result<Line<'a>, LineFault>
     ensures { told result ≡ said line.now }
 {
     match fields::split(line) {
-        Some((first, more)) => match first_word(first) {
+        Some((first, more)) => match Word::try_from(first)? {
             Word::Size => size_line(more),
             Word::Put => put_line(more),
             Word::Settle => Err(LineFault::Fields),
-            Word::Other => Err(LineFault::Word),
         },
-        None => match first_word(line) {
-            Word::Size => Err(LineFault::Fields),
-            Word::Put => Err(LineFault::Fields),
+        None => match Word::try_from(line)? {
+            Word::Size | Word::Put => Err(LineFault::Fields),
             Word::Settle => Ok(Line::Settle),
-            Word::Other => Err(LineFault::Word),
         },
     }
 }

@@ -1,4 +1,4 @@
-ghost use Rattle.std.specs.Prelude.{◌≡◌, ◌≤◌, ◌&&◌, [], ◌++◌, length, drop, None, nat_le};
+ghost use Rattle.std.specs.Prelude.{◌≡◌, ◌≤◌, [], length, None, ok_or};
 ghost use Rattle.plan.specs.Lines.{printable, said};
 ghost use Rattle.plan.specs.Lines.Said.{size, put, settle};
 ghost use Rattle.plan.specs.Plans.{filled, took, Reads, Adds};
@@ -15,31 +15,14 @@ pub struct Plan {
     steps: Vec<Step>,
 }
 
-/// Whether a byte is from space to tilde.
-fn is_shown(b: u8) -> bool
-    ensures { result ≡ (nat_le 32 b && nat_le b 126) }
-{
-    matches!(b as char, ' '..='~')
-}
+/// The most sectors that a plan's disk may have.
+const MOST_SECTORS: u32 = 16384;
 
 /// Whether all bytes are from space to tilde.
 fn is_printable(s: &[u8]) -> bool
     ensures { result ≡ printable s.now }
 {
-    for i in 0..s.len() {
-        if !is_shown(s[i]) {
-            return false;
-        }
-    }
-    true
-}
-
-/// Puts `text` at the start of a sector.
-fn overwrite(sector: &mut [u8; 1024], text: &[u8])
-    requires { length text.now ≤ 1024 }
-    ensures { sector.new ≡ text.now ++ drop (length text.now) sector.old }
-{
-    sector[0..text.len()].copy_from_slice(text);
+    s.iter().all(|b| (b' '..=b'~').contains(b))
 }
 
 /// A sector that starts with this text and is zero after it.
@@ -48,7 +31,7 @@ fn fill(text: &[u8]) -> [u8; 1024]
     ensures { result ≡ filled text.now }
 {
     let mut sector = [0u8; 1024];
-    overwrite(&mut sector, text);
+    sector[..text.len()].copy_from_slice(text);
     sector
 }
 
@@ -82,10 +65,15 @@ impl Plan {
     fn add(&mut self, step: Step) -> Result<(), LineFault>
         ensures { Adds self.old step result self.new }
     {
-        match self.steps.push(step) {
-            Ok(()) => Ok(()),
-            Err(_) => Err(LineFault::Memory),
-        }
+        self.steps.push(step)?;
+        Ok(())
+    }
+
+    /// The number of sectors, which a step needs.
+    fn known_size(&self) -> Result<usize, LineFault>
+        ensures { result ≡ ok_or self.now.size LineFault.SizeMissing }
+    {
+        self.size.ok_or(LineFault::SizeMissing)
     }
 
     fn read_size(&mut self, n: u32) -> Result<(), LineFault>
@@ -94,7 +82,7 @@ impl Plan {
         if self.size.is_some() {
             return Err(LineFault::SizeAgain);
         }
-        if n < 1 || n > 16384 {
+        if !(1..=MOST_SECTORS).contains(&n) {
             return Err(LineFault::SizeRange);
         }
         self.size = Some(n as usize);
@@ -104,9 +92,7 @@ impl Plan {
     fn read_put(&mut self, sector: u32, text: &[u8]) -> Result<(), LineFault>
         ensures { Reads (took self.old.size (put sector text.now)) self.old result self.new }
     {
-        let Some(size) = self.size else {
-            return Err(LineFault::SizeMissing);
-        };
+        let size = self.known_size()?;
         let sector = sector as usize;
         if sector >= size {
             return Err(LineFault::Sector);
@@ -123,9 +109,7 @@ impl Plan {
     fn read_settle(&mut self) -> Result<(), LineFault>
         ensures { Reads (took self.old.size settle) self.old result self.new }
     {
-        if self.size.is_none() {
-            return Err(LineFault::SizeMissing);
-        }
+        self.known_size()?;
         self.add(Step::Settle)
     }
 

@@ -1,5 +1,5 @@
 /// What a plan asks of a disk.
-#[derive(Clone, Copy)]
+#[derive(Clone, Copy, PartialEq, Eq, Debug)]
 pub enum Step {
     Put { sector: usize, bytes: [u8; 1024] },
     Settle,

@@ -38,8 +38,7 @@ fn read_plan(rt: &HostRuntime) -> anyhow::Result<Plan> {
             break;
         };
         if let Err(fault) = plan.read(line.as_slice()) {
-            let message = fault.message();
-            return Err(anyhow!("line {number}: {message}"));
+            return Err(anyhow!("line {number}: {fault}"));
         }
     }
     Ok(plan)
