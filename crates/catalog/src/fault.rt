@@ -6,7 +6,7 @@ use disk::fault::DiskFault;
 use numbers::sector::Sector;
 
 /// What is wrong with a volume's layout, with the sector that held what was asked.
-#[derive(Clone, Copy, PartialEq, Eq)]
+#[derive(Clone, Copy, PartialEq, Eq, Debug)]
 pub enum LayoutFault {
     /// the disk does not have 3 to 16,384 sectors
     BadSize,
@@ -49,19 +49,19 @@ impl LayoutFault {
     {
         match self {
             LayoutFault::BadSize => None,
-            LayoutFault::BadMark(s) => Some(s),
-            LayoutFault::BadCount(s) => Some(s),
-            LayoutFault::BadAddress(s) => Some(s),
-            LayoutFault::MetBefore(s) => Some(s),
-            LayoutFault::BadLevel(s) => Some(s),
-            LayoutFault::BadEntry(s) => Some(s),
-            LayoutFault::BadLength(s) => Some(s),
+            LayoutFault::BadMark(s)
+            | LayoutFault::BadCount(s)
+            | LayoutFault::BadAddress(s)
+            | LayoutFault::MetBefore(s)
+            | LayoutFault::BadLevel(s)
+            | LayoutFault::BadEntry(s)
+            | LayoutFault::BadLength(s) => Some(s),
         }
     }
 }
 
 /// Why a volume could not be read: the disk did not answer, or its layout is wrong.
-#[derive(Clone, Copy, PartialEq, Eq)]
+#[derive(Clone, Copy, PartialEq, Eq, Debug)]
 pub enum VolumeFault {
     Disk(DiskFault),
     Layout(LayoutFault),

@@ -4,14 +4,15 @@
 mod pile;
 mod report;
 
-use anyhow::anyhow;
-use pile::{Pile, try_pile};
+use anyhow::{Context, anyhow};
+use pile::{Pile, Setup, try_pile};
 use plan::reader::Plan;
+use plan::step::Step;
 use std::alloc::Global;
 use std::io::{BufRead, BufReader, Stdin};
 
 /// The power stops so far, and how many of them left something that the plan does not allow.
-#[derive(Clone, Copy)]
+#[derive(Clone, Copy, Default)]
 struct Tally {
     stops: usize,
     wrong: usize,
@@ -37,9 +38,8 @@ fn read_plan(rt: &HostRuntime) -> anyhow::Result<Plan> {
         let Some(line) = next_line(&mut input, rt.alloc())? else {
             break;
         };
-        if let Err(fault) = plan.read(line.as_slice()) {
-            return Err(anyhow!("line {number}: {fault}"));
-        }
+        plan.read(line.as_slice())
+            .map_err(|fault| anyhow!("line {number}: {fault}"))?;
     }
     Ok(plan)
 }
@@ -49,18 +49,19 @@ fn try_all(
     rt: &HostRuntime,
     pile: Pile,
     size: usize,
-    plan: &Plan,
+    steps: &[Step],
     tally: &mut Tally,
 ) -> anyhow::Result<()> {
-    for passes in 0..plan.steps().len().saturating_add(1) {
+    for passes in 0..steps.len().saturating_add(1) {
         let mut line = String::new(rt.alloc());
-        let report = try_pile(rt.alloc(), pile, passes, size, plan.steps(), &mut line)?;
+        let setup = Setup { pile, passes };
+        let report = try_pile(rt.alloc(), setup, size, steps, &mut line)?;
         println!(rt; "{line}")?;
         tally.stops = tally.stops.saturating_add(1);
         if report.wrong > 0 {
             tally.wrong = tally.wrong.saturating_add(1);
         }
-        if report.ending.is_finished() {
+        if report.is_finished() {
             break;
         }
     }
@@ -69,18 +70,14 @@ fn try_all(
 
 fn serve(rt: &HostRuntime) -> anyhow::Result<()> {
     let plan = read_plan(rt)?;
-    let Some(size) = plan.size() else {
-        return Err(anyhow!("the plan is empty: its first line has to be SIZE"));
-    };
-    let mut tally = Tally { stops: 0, wrong: 0 };
-    try_all(rt, Pile::Image, size, &plan, &mut tally)?;
-    try_all(rt, Pile::Hold, size, &plan, &mut tally)?;
-    try_all(rt, Pile::Fuse, size, &plan, &mut tally)?;
-    try_all(rt, Pile::HoldOverFuse, size, &plan, &mut tally)?;
-    try_all(rt, Pile::FuseOverHold, size, &plan, &mut tally)?;
-    let stops = tally.stops;
-    let wrong = tally.wrong;
-    println!(rt; "stops,{stops},not allowed,{wrong}")?;
+    let size = plan
+        .size()
+        .context("the plan is empty: its first line has to be SIZE")?;
+    let mut tally = Tally::default();
+    for pile in Pile::ALL {
+        try_all(rt, pile, size, plan.steps(), &mut tally)?;
+    }
+    println!(rt; "stops,{},not allowed,{}", tally.stops, tally.wrong)?;
     Ok(())
 }
 

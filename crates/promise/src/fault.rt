@@ -5,7 +5,7 @@ ghost use Rattle.promise.specs.declared.fault.FileFault.TheVariants.{Volume as o
 use catalog::fault::VolumeFault;
 
 /// Why a call of the store was refused.
-#[derive(Clone, Copy, PartialEq, Eq)]
+#[derive(Clone, Copy, PartialEq, Eq, Debug)]
 pub enum FileFault {
     /// the disk did not answer, its size is wrong, or what it holds keeps no layout
     Volume(VolumeFault),

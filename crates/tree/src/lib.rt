@@ -10,15 +10,13 @@ ghost use Rattle.tree.specs.Laws.{InsertPuts, InsertKeeps, InsertLevels, InsertW
 ghost use Rattle.tree.specs.Laws.{DeleteTakes, DeleteKeeps, DeleteLoses, DeleteMost, DeleteChanges};
 
 // The tree of a new directory is good, and a search finds what the entries in order have.
-pub fn lookup_stands<K>() -> u8
+pub fn lookup_stands<K>()
     ensures begins { AnyOrder K EmptyGood }
     ensures finds { AnyOrder K LookupFinds }
-{
-    0
-}
+{}
 
 // An insert: the entries, the pages and the levels.
-pub fn insert_stands<K>() -> u8
+pub fn insert_stands<K>()
     ensures puts { AnyOrder K InsertPuts }
     ensures keeps { AnyOrder K InsertKeeps }
     ensures stays { AnyOrder K InsertLevels }
@@ -27,39 +25,31 @@ pub fn insert_stands<K>() -> u8
     ensures gains { AnyOrder K InsertGains }
     ensures path { AnyOrder K InsertPath }
     ensures six { AnyOrder K InsertSix }
-{
-    0
-}
+{}
 
 // A delete: the entries and the pages.
-pub fn delete_stands<K>() -> u8
+pub fn delete_stands<K>()
     ensures takes { AnyOrder K DeleteTakes }
     ensures keeps { AnyOrder K DeleteKeeps }
     ensures loses { AnyOrder K DeleteLoses }
     ensures most { AnyOrder K DeleteMost }
-{
-    0
-}
+{}
 
 // The changed pages, by their definition, are those that insert and delete count.
-pub fn changes_stand<K>() -> u8
+pub fn changes_stand<K>()
     ensures insert { AnyOrder K InsertChanges }
     ensures again { AnyOrder K InsertAgain }
     ensures delete { AnyOrder K DeleteChanges }
-{
-    0
-}
+{}
 
 // How two neighbours share their entries, whatever hangs below them.
-pub fn shares_stand<K, S>() -> u8
+pub fn shares_stand<K, S>()
     ensures { Shares K S }
-{
-    0
-}
+{}
 
 // A tree in sectors: search, and an insert and a delete that write the changed pages to free sectors and the root to its own.
 // The sectors set free are those of the old pages that the new tree has no more.
-pub fn stored_stands<K>() -> u8
+pub fn stored_stands<K>()
     ensures seeks { AnyCompare K SeekLooks }
     ensures inserts { AnyCompare K InsertStores }
     ensures replaces { ReplaceStores K }
@@ -72,15 +62,11 @@ pub fn stored_stands<K>() -> u8
     ensures insert_balances { AnyOrder K InsertBalances }
     ensures replace_balances { AnyOrder K ReplaceBalances }
     ensures delete_balances { AnyOrder K DeleteBalances }
-{
-    0
-}
+{}
 
 // Worked examples, and good trees in which an insert changes six pages and a delete four.
-pub fn examples_stand() -> u8
+pub fn examples_stand()
     ensures worked { Examples }
     ensures reached { Reached }
     ensures stored { StoredExamples }
-{
-    0
-}
+{}
