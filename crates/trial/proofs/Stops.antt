@@ -35,18 +35,6 @@ pub record Looked (m₀ : Meaning) (ss : List Step) (k w : ℕ) (m : Meaning) : 
   pub counts : w ≡ failing k (passes m₀ ss)
   pub few : w ≤ k
 
-pub looked-none : (m : Meaning) (ss : List Step) → Sound m → Looked m ss 0 0 m
-looked-none m ss s = record {
-  size = refl;
-  shows = λ k lt. refl;
-  fewer = λ k x lt i. i;
-  calm = λ c. c;
-  live = λ l. l;
-  sound = s;
-  counts = refl;
-  few = omega arith;
-}
-
 more-few : (b : Bool) (w k : ℕ) → w ≤ k → w + cond b 0 1 ≤ k + 1
 more-few true w k h = omega arith
 more-few false w k h = omega arith
@@ -84,17 +72,6 @@ module _ (m₀ m m' : Meaning) (ss : List Step) (k w : ℕ) (lt : k < m₀.size)
   counts-err r f by p =
       let q = err_from_is_err_and r by in
       subst (λ t. Counts m₀ ss t m') (sym (q.1 ∙ ap Err q.2)) (refused f p)
-
-pub counts_all : (m₀ m : Meaning) (ss : List Step) (k w : ℕ) → k ≡ m₀.size → Looked m₀ ss k w m → Counts m₀ ss (Ok w) m
-counts_all m₀ m ss k w e h = record {
-  answer = h.counts ∙ ap (λ j. failing j (passes m₀ ss)) e;
-  size = h.size;
-  shows = h.shows;
-  fewer = h.fewer;
-  accepts = λ _ _. refl;
-  live = λ l _. h.live l;
-  sound = h.sound;
-}
 
 module _ (D : Type 0) (meaning : D → Meaning) (does : D → Request → Answer → D → Type 0) (d d₁ d₂ d' : D) (ss done : List Step) (e : Ending) (w : ℕ) where
   pub reported : Ended does ss d e d₁ → Ran (meaning d) ss e (meaning d₁) → does d₁ restarting (Ok tt) d₂ → Restarts (meaning d₁) (Ok tt) (meaning d₂) →

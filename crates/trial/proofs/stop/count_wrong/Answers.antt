@@ -1,18 +1,12 @@
 use Rattle.std.proofs.Common.{◌≡◌, ◌+◌, cond, sym, ap, ◌∙◌, arith}
-use Rattle.trial.proofs.Stops.{looked-none, looked-more, counts-err, counts_all}
+use Rattle.trial.proofs.Stops.{looked-more, counts-err}
 use Rattle.trial.proofs.stop.count_wrong.Goals as goal
 use Rattle.trial.proofs.stop.count_wrong.Goals.{then-not-branch, else-not-branch}
-
-pub loop-k-init : goal.loop-k-init
-loop-k-init g c = looked-none _ _ c.size-k-end.ensures.sound
 
 pub returns-in_err-look : goal.returns-in_err-look
 returns-in_err-look g c =
     let e = c.size-k-end.ensures.is in
     counts-err _ _ _ _ _ _ (omega arith) c.loop-k.invariant _ _ c.from_residual.ensures.1 c.in_err-look.ensures
-
-pub overflow_add-wrong : goal.overflow_add-wrong
-overflow_add-wrong g c = record { fits = omega (arith, c.loop-k.invariant.few, c.size-k-end.type_inv) }
 
 pub loop-k-preserved : goal.loop-k-preserved
 loop-k-preserved g c =
@@ -24,8 +18,3 @@ loop-k-preserved g c =
       | then-not-branch v ↦ v.wrong-is ∙ sym (ap (λ b. w + cond b 0 1) v.if-not-branch.true)
       | else-not-branch v ↦ v.wrong-is ∙ (none ∙ sym (ap (λ b. w + cond b 0 1) v.if-not-branch.false))
     ])
-
-pub returns : goal.returns
-returns g c =
-    let e = c.size-k-end.ensures.is in
-    counts_all _ _ _ _ _ (omega arith) c.loop-k.invariant
