@@ -1,24 +1,14 @@
 -- Contents that are among those allowed, and counting the sectors whose contents are not.
-use Rattle.std.proofs.Common.{◌≡◌, ℕ, zero, suc, ◌+◌, ◌<◌, Bool, true, false, cond, ◌||◌, eqb, List, [], ◌∷◌, refl, ap, ◌∙◌, inl, inr, add-one, arith}
+use Rattle.std.proofs.Common.{◌≡◌, ℕ, zero, suc, ◌+◌, ◌<◌, Bool, true, false, cond, ◌||◌, eqb, List, [], ◌∷◌, refl, sym, ap, ◌∙◌, inl, inr, add-one, arith}
 use Rattle.std.proofs.lemmas.Bool.{eq-eqb, and_from, or_left, or_right}
+use Rattle.std.proofs.lemmas.Slice.Eq.{bytes_eq-Decides}
 use Rattle.std.specs.Str.{bytes_eq}
 use Rattle.disk.specs.Meaning.{Contents, In}
 use Rattle.trial.specs.Leaves.{among, failing}
 
-pub or-none : (b : Bool) → (b || false) ≡ b
-or-none true = refl
-or-none false = refl
-
-same_self : (x : Contents) → bytes_eq x x ≡ true
-same_self [] = refl
-same_self (b ∷ x) = and_from (eqb b b) (bytes_eq x x) (eq-eqb b b refl) (same_self x)
-
-same-is : (x y : Contents) → x ≡ y → bytes_eq y x ≡ true
-same-is x y e = ap (bytes_eq y) e ∙ same_self y
-
 pub in-among : (x : Contents) (xs : List Contents) → In x xs → among x xs ≡ true
 in-among x [] i = absurd i
-in-among x (y ∷ ys) (inl e) = or_left (bytes_eq y x) (among x ys) (same-is x y e)
+in-among x (y ∷ ys) (inl e) = or_left (bytes_eq y x) (among x ys) ((bytes_eq-Decides y x).1 (sym e))
 in-among x (y ∷ ys) (inr i) = or_right (bytes_eq y x) (among x ys) (in-among x ys i)
 
 pub failing-none : (n : ℕ) (test : ℕ → Bool) → ((k : ℕ) → k < n → test k ≡ true) → failing n test ≡ 0
