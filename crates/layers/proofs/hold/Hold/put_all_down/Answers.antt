@@ -1,19 +1,18 @@
 use Rattle.std.proofs.Common.{length, sym, arith}
 use Rattle.std.proofs.lemmas.Bool.{eqb-true, eqb-false}
-use Rattle.layers.specs.Tables.{rows}
 use Rattle.layers.specs.Holding.Downs.{none, more}
 use Rattle.layers.proofs.Holds.{sound-held, spills-none, spills-more, spills-err}
-use Rattle.layers.proofs.Tables.{all_whole}
+use Rattle.layers.proofs.Rows.{all_whole}
 use Rattle.layers.proofs.Downs.{err-is, no_rows, all-down-err}
 use Rattle.layers.proofs.hold.Hold.put_all_down.Goals as goal
 
 pub loop-self-init : goal.loop-self-init
 loop-self-init g c =
-    (spills-none _ (sound-held _ _ (all_whole c.args.self.now.table) c.requires.sound) c.requires.live, none)
+    (spills-none _ (sound-held _ _ (all_whole c.args.self.now.table.rows.items c.args.self.now.table.tidy) c.requires.sound) c.requires.live, none)
 
 pub put_down-requires : goal.put_down-requires
 put_down-requires g c =
-    let ne = eqb-false (length (rows c.loop-self.self.table)) 0 (sym c.loop-self-test.ensures) in
+    let ne = eqb-false (length c.loop-self.self.table.rows.items) 0 (sym c.loop-self-test.ensures) in
     record { some = omega arith; live = c.loop-self.invariant.0.answer.1 }
 
 pub loop-self-smaller : goal.loop-self-smaller
@@ -35,5 +34,5 @@ returns-in_err-put_down g c =
 
 pub returns : goal.returns
 returns g c =
-    let s = rows c.loop-self.self.table in
+    let s = c.loop-self.self.table.rows.items in
     record { rule = c.loop-self.invariant.0; done = (c.loop-self.invariant.1, no_rows s (eqb-true (length s) 0 (sym c.loop-self-test.ensures))) }
