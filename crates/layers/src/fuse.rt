@@ -67,12 +67,12 @@ impl<D: Disk> Disk for Fuse<D> {
         }
         match self.state {
             FuseState::Blown => Err(DiskFault::gone(Layer::Fuse, n)),
+            FuseState::Counting(0) => {
+                self.state = FuseState::Blown;
+                Err(DiskFault::gone(Layer::Fuse, n))
+            }
             FuseState::Counting(left) => {
-                let Some(rest) = left.checked_sub(1) else {
-                    self.state = FuseState::Blown;
-                    return Err(DiskFault::gone(Layer::Fuse, n));
-                };
-                self.state = FuseState::Counting(rest);
+                self.state = FuseState::Counting(left - 1);
                 self.below.put(n, bytes)
             }
             FuseState::Bypassed => self.below.put(n, bytes),

@@ -40,7 +40,13 @@ impl<D: Disk> Hold<D> {
             return Ok(());
         };
         match self.below.put(row.sector, &row.bytes) {
-            Ok(()) | Err(DiskFault { cause: Cause::Outside, .. }) => {
+            Ok(())
+            | Err(
+                DiskFault {
+                    cause: Cause::Outside,
+                    ..
+                },
+            ) => {
                 self.table.pop();
                 Ok(())
             }
@@ -101,8 +107,8 @@ impl<D: Disk> Disk for Hold<D> {
         let Err(Full) = self.table.keep(n, bytes) else {
             return Ok(());
         };
-        self.put_down()?; // makes room
-        let _ = self.table.keep(n, bytes);
+        self.put_down()?;
+        let _ = self.table.keep(n, bytes); // there is room now
         Ok(())
     }
 

@@ -28,10 +28,10 @@ returns-in-Ok g c =
     let y = c.in-Some.row.now in
     let p = popped-row _ y t.tidy c.in-Some.ensures c.pop.ensures in
     let told : LetsGo c.put.result =
-        elim c.in-Ok-1.branch [
-          in-Ok-1 w ↦ (let e : c.put.result ≡ Ok tt = search rules in rw e tt)
-        | in-Err+in-Outside-1 w ↦ (let e : (f : DiskFault) × (c.put.result ≡ Err f) × (f.cause ≡ Outside) = search rules in rw e.1 e.2)
-        ] in
+    elim c.in-Ok-1.branch [
+      | in-Ok-1 w ↦ (let e : c.put.result ≡ Ok tt = search rules in rw e tt)
+      | in-Err+in-Outside-1 w ↦ (let e : (f : DiskFault) × (c.put.result ≡ Err f) × (f.cause ≡ Outside) = search rules in rw e.1 e.2)
+    ] in
     let h = c.put.ensures in
     record {
       rule = spills-told _ _ _ _ y.sector y.bytes p.kept p.without.gone p.without.others (all_whole u.rows.items u.tidy) c.put.result told c.requires.live h.rule;

@@ -1,4 +1,4 @@
-use Rattle.std.proofs.Common.{◌≡◌, set, is_some, sym, refl, ap, ◌∙◌, inl, length-set}
+use Rattle.std.proofs.Common.{set, is_some, sym, refl, ap, ◌∙◌, inl, length-set}
 use Rattle.arrayvec.proofs.ArrayVecLemmas.{items-with_items}
 use Rattle.disk.specs.Meaning.{Whole}
 use Rattle.layers.specs.declared.kept.Kept.{Kept}
