@@ -40,17 +40,11 @@ impl<D: Disk> Hold<D> {
             return Ok(());
         };
         match self.below.put(row.sector, &row.bytes) {
-            Ok(())
-            | Err(
-                DiskFault {
-                    cause: Cause::Outside,
-                    ..
-                },
-            ) => {
+            Err(fault) if fault.cause == Cause::Gone => Err(fault),
+            _ => {
                 self.table.pop();
                 Ok(())
             }
-            Err(fault) => Err(fault),
         }
     }
 

@@ -5,7 +5,7 @@ use Rattle.layers.proofs.Rows.{popped-row, kept-last, all_whole}
 use Rattle.layers.proofs.Holds.{LetsGo, spills-told, spills-gone}
 use Rattle.layers.proofs.Downs.{follows-told, refused-gone}
 use Rattle.layers.proofs.hold.Hold.put_down.Goals as goal
-use Rattle.layers.proofs.hold.Hold.put_down.Goals.{in-Ok-1, in-Err+in-Outside-1}
+use Rattle.layers.proofs.hold.Hold.put_down.Goals.{in_default-put-via-in-Err+else-eq, in_default-put-via-in_default-put}
 
 pub returns-in-Err : goal.returns-in-Err
 returns-in-Err g c =
@@ -21,16 +21,16 @@ returns-in-Err g c =
       done = record { row = y; told = Err c.in-Err.fault; kept = k; asked = h.done; follows = refused-gone _ y _ is };
     }
 
-pub returns-in-Ok : goal.returns-in-Ok
-returns-in-Ok g c =
+pub returns-in_default-put : goal.returns-in_default-put
+returns-in_default-put g c =
     let t = c.args.self.now.table in
     let u = c.pop.new.self in
     let y = c.in-Some.row.now in
     let p = popped-row _ y t.tidy c.in-Some.ensures c.pop.ensures in
     let told : LetsGo c.put.result =
-    elim c.in-Ok-1.branch [
-      | in-Ok-1 w ↦ (let e : c.put.result ≡ Ok tt = search rules in rw e tt)
-      | in-Err+in-Outside-1 w ↦ (let e : (f : DiskFault) × (c.put.result ≡ Err f) × (f.cause ≡ Outside) = search rules in rw e.1 e.2)
+    elim c.in_default-put.branch [
+      | in_default-put-via-in-Err+else-eq w ↦ (let e : (f : DiskFault) × (c.put.result ≡ Err f) × (f.cause ≡ Outside) = search rules in rw e.1 e.2)
+      | in_default-put-via-in_default-put w ↦ (let e : c.put.result ≡ Ok tt = search rules in rw e tt)
     ] in
     let h = c.put.ensures in
     record {
