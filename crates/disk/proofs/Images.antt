@@ -1,12 +1,9 @@
 -- An image keeps the rules, and does what it says, over the bytes lent to it.
-use Rattle.std.proofs.Common.{◌≡◌, ℕ, ◌/◌, ◌<◌, ◌≤◌, List, [], ◌∷◌, Ok, Err, sym, refl, ap, ◌∙◌, subst, inl, inr, ⊎_elim}
-use Rattle.std.proofs.lemmas.Bool.{cases_eq, cond_below, cond_above}
-use Rattle.disk.specs.declared.fault.Layer.TheVariants.{Image as is_image}
-use Rattle.disk.specs.declared.fault.DiskFault.{DiskFault}
-use Rattle.disk.specs.Faults.{outside}
+use Rattle.std.proofs.Common.{◌≡◌, ℕ, ◌/◌, ◌<◌, List, [], ◌∷◌, Ok, sym, refl, ap, ◌∙◌, subst, inl, inr, ⊎_elim}
+use Rattle.std.proofs.lemmas.Bool.{cases_eq, cond_below}
 use Rattle.disk.specs.Meaning.{Contents, Whole, In, Sound}
 use Rattle.disk.specs.Rules.{Gets, Puts, Settles, Restarts, Settled}
-use Rattle.disk.specs.Rules.Request.{getting, putting}
+use Rattle.disk.specs.Rules.Request.{putting}
 use Rattle.disk.specs.Sectors.{count, sector, over, written, ImageDoes}
 use Rattle.disk.proofs.Bytes.{whole-sector, written-here, written-length, written-others, written-tail}
 

@@ -2,8 +2,8 @@ ghost use Rattle.std.specs.Prelude.{◌≡◌, ℕ, ◌+◌, ◌*◌, ◌/◌, �
 ghost use Rattle.disk.specs.Meaning.{Whole};
 ghost use Rattle.disk.specs.Sectors.{count, over, sector, written, ImageDoes};
 
-use crate::{Disk, SECTOR_SIZE, SectorBytes};
 use crate::fault::{DiskFault, Layer};
+use crate::{Disk, SECTOR_SIZE, SectorBytes};
 
 /// A disk over lent bytes: sector `n` is the part that starts at byte 1024 × n.
 /// It is live from its making and never gone. Bytes after the last whole sector are no sector's and stay as they are.

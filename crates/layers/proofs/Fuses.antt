@@ -1,15 +1,14 @@
 -- A fuse that counts hands a put on and counts it.
-use Rattle.std.proofs.Common.{◌≡◌, ℕ, suc, ◌<◌, false, Ok, Err, sym, refl, ap, ◌∙◌, subst, arith}
+use Rattle.std.proofs.Common.{◌≡◌, ℕ, false, Ok, Err, sym, refl, ap, subst}
 use Rattle.std.proofs.lemmas.Bool.{both_ways}
 use Rattle.disk.specs.declared.fault.Cause.{Cause}
 use Rattle.disk.specs.declared.fault.Cause.TheVariants.{Outside, Gone}
 use Rattle.disk.specs.declared.fault.DiskFault.{DiskFault}
 use Rattle.disk.specs.Meaning.{Contents, Meaning}
-use Rattle.disk.specs.Rules.{Answer, Request, Refuses, PutAnswers, Puts}
-use Rattle.disk.specs.Rules.Request.{putting}
+use Rattle.disk.specs.Rules.{Answer, Refuses, PutAnswers, Puts}
 use Rattle.layers.specs.declared.fuse.FuseState.{FuseState}
 use Rattle.layers.specs.declared.fuse.FuseState.TheVariants.{Counting}
-use Rattle.layers.specs.Fusing.{fused, FuseDoes}
+use Rattle.layers.specs.Fusing.{fused}
 
 module _ (m m' : Meaning) (n : ℕ) (x : Contents) (j k : ℕ) where
   refuses : (c : Cause) (f : DiskFault) → Refuses c m n f m' → Refuses c (fused (Counting j) m) n f (fused (Counting k) m')
@@ -32,10 +31,3 @@ module _ (m m' : Meaning) (n : ℕ) (x : Contents) (j k : ℕ) where
 
 pub puts-counted : (m m' : Meaning) (n : ℕ) (x : Contents) (s : FuseState) (j k : ℕ) (r : Answer) → s ≡ Counting j → Puts m n x r m' → Puts (fused s m) n x r (fused (Counting k) m')
 puts-counted m m' n x s j k r is p = subst (λ t. Puts (fused t m) n x r (fused (Counting k) m')) (sym is) (counted m m' n x j k r p)
-
--- what a counting fuse does with a put that passes
-pub passes : (D : Type 0) (does : D → Request → Answer → D → Type 0) (N n k rest : ℕ) (x : Contents) (s : FuseState) (d d' : D) (r : Answer) →
-    s ≡ Counting k → k ≡ suc rest → n < N → does d (putting n x) r d' → FuseDoes does N s d (putting n x) r (Counting rest) d'
-passes D does N n k rest x s d d' r is more inside h =
-    subst (λ t. FuseDoes does N t d (putting n x) r (Counting rest) d') (sym (is ∙ ap Counting more))
-    (record { beyond = λ ge. absurd (omega arith); within = λ _. record { asked = h; memory = refl } })

@@ -48,6 +48,11 @@ sound-held f m w s = record {
   whole = λ k x lt i. ⊎_elim (s.whole k x lt) (w k x) (in-cases (f k) x (m.may k) i);
 }
 
+-- the answer to a put after which a row is kept no more
+abbrev pub LetsGo : Answer → Type 0
+LetsGo (Ok _) = Unit {0}
+LetsGo (Err fault) = fault.cause ≡ Outside
+
 -- SPILLS: a row of f, sector s with x, is put down, and g keeps the others
 
 module _ (f g : Keeper) (m m' : Meaning) (s : ℕ) (x : Contents)
@@ -68,7 +73,7 @@ module _ (f g : Keeper) (m m' : Meaning) (s : ℕ) (x : Contents)
       (λ e. ⊎_elim (λ (z : k ≡ s). some-none (g k) (ap g z ∙ off) e) (λ ne. in_kept (f k) y (m.may k) (sym (same k ne) ∙ e)) (cases_eq k s))
       (in-cases (g k) y (m'.may k) i)
 
-  pub spills-ok : Puts m s x (Ok tt) m' → Spills (held f m) (Ok tt) (held g m')
+  spills-ok : Puts m s x (Ok tt) m' → Spills (held f m) (Ok tt) (held g m')
   spills-ok p = record {
     answer = (p.answer.was, p.answer.live);
     size = p.size;
@@ -91,8 +96,12 @@ module _ (f g : Keeper) (m m' : Meaning) (s : ℕ) (x : Contents)
         sound = sound-held g m' w p.sound;
       }
 
-  pub spills-outside : (fault : DiskFault) → fault.cause ≡ Outside → m.live ≡ true → Puts m s x (Err fault) m' → Spills (held f m) (Ok tt) (held g m')
+  spills-outside : (fault : DiskFault) → fault.cause ≡ Outside → m.live ≡ true → Puts m s x (Err fault) m' → Spills (held f m) (Ok tt) (held g m')
   spills-outside fault is l p = let_go fault l p (subst (λ c. Refuses c m s fault m') is p.answer)
+
+  pub spills-told : (r : Answer) → LetsGo r → m.live ≡ true → Puts m s x r m' → Spills (held f m) (Ok tt) (held g m')
+  spills-told (Ok _) h l p = spills-ok p
+  spills-told (Err fault) h l p = spills-outside fault h l p
 
 -- the put of a row is gone, and it stays kept
 module _ (f : Keeper) (m m' : Meaning) (s : ℕ) (x : Contents) (has : f s ≡ Some x) (w : AllWhole f) where

@@ -1,5 +1,4 @@
 pub mod Fuses
-pub mod Rows
 pub mod Holds
-pub mod Tables
+pub mod Rows
 pub mod Downs

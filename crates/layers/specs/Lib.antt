@@ -1,5 +1,4 @@
 pub mod Layered
 pub mod Fusing
 pub mod Rows
-pub mod Tables
 pub mod Holding

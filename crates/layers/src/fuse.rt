@@ -2,8 +2,8 @@ ghost use Rattle.std.specs.Prelude.{◌≡◌};
 ghost use Rattle.layers.specs.Fusing.{fused, FuseDoes};
 ghost use Rattle.layers.specs.declared.fuse.FuseState.TheVariants.{Counting as is_counting};
 
-use disk::Disk;
 use disk::fault::{DiskFault, Layer};
+use disk::{Disk, SectorBytes};
 
 /// How a fuse stands: it still lets so many puts pass, it has blown, or it lets all pass.
 #[derive(Clone, Copy, PartialEq, Eq, Debug)]
@@ -51,7 +51,7 @@ impl<D: Disk> Disk for Fuse<D> {
         }
     }
 
-    fn get(&mut self, n: usize, into: &mut [u8; 1024]) -> Result<(), DiskFault> {
+    fn get(&mut self, n: usize, into: &mut SectorBytes) -> Result<(), DiskFault> {
         if n >= self.below.size() {
             return Err(DiskFault::outside(Layer::Fuse, n));
         }
@@ -61,18 +61,18 @@ impl<D: Disk> Disk for Fuse<D> {
         }
     }
 
-    fn put(&mut self, n: usize, bytes: &[u8; 1024]) -> Result<(), DiskFault> {
+    fn put(&mut self, n: usize, bytes: &SectorBytes) -> Result<(), DiskFault> {
         if n >= self.below.size() {
             return Err(DiskFault::outside(Layer::Fuse, n));
         }
         match self.state {
             FuseState::Blown => Err(DiskFault::gone(Layer::Fuse, n)),
+            FuseState::Counting(0) => {
+                self.state = FuseState::Blown;
+                Err(DiskFault::gone(Layer::Fuse, n))
+            }
             FuseState::Counting(left) => {
-                let Some(rest) = left.checked_sub(1) else {
-                    self.state = FuseState::Blown;
-                    return Err(DiskFault::gone(Layer::Fuse, n));
-                };
-                self.state = FuseState::Counting(rest);
+                self.state = FuseState::Counting(left - 1);
                 self.below.put(n, bytes)
             }
             FuseState::Bypassed => self.below.put(n, bytes),

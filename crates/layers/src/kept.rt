@@ -1,6 +1,8 @@
+use disk::SectorBytes;
+
 /// A put sector that a hold keeps in memory.
-#[derive(Clone, Copy)]
+#[derive(Clone, Copy, Default)]
 pub struct Kept {
     pub sector: usize,
-    pub bytes: [u8; 1024],
+    pub bytes: SectorBytes,
 }

@@ -1,16 +1,18 @@
-ghost use Rattle.std.specs.Prelude.{◌≡◌, ◌≤◌, true, length, take};
-ghost use Rattle.layers.specs.Rows.{tidy};
+ghost use Rattle.layers.specs.Rows.{Tidy};
 
 use crate::kept::Kept;
+use arrayvec::ArrayVec;
 
 mod methods;
 
-/// Up to 16 kept sectors, each sector at most once: the first `count` of `slots`.
+/// There is no room: 16 other sectors are kept.
+#[derive(Clone, Copy, Debug, PartialEq, Eq)]
+pub struct Full;
+
+/// Up to 16 kept sectors, each sector at most once.
+// A ghost field, and no `impl Model`: a hold that is asked for its size needs the fact, and calls no method of its table.
 #[derive(Drop)]
 pub struct Table {
-    slots: [Kept; 16],
-    count: usize,
-    ghost small: { count ≤ 16 },
-    ghost long: { length slots ≡ 16 },
-    ghost neat: { tidy (take count slots) ≡ true },
+    rows: ArrayVec<Kept, 16>,
+    ghost tidy: { Tidy rows.items },
 }

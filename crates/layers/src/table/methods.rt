@@ -1,96 +1,85 @@
-ghost use Rattle.std.specs.Prelude.{◌≡◌, ◌-◌, [], length, take, ◌==◌};
-ghost use Rattle.layers.specs.Rows.{at, Place, Copied, KeptOrFull};
-ghost use Rattle.layers.specs.Tables.{rows, Last};
+ghost use Rattle.std.specs.Prelude.{◌≡◌, ◌-◌, ◌<◌, ◌⊎◌, true, [], length, take, position, slice_get, option_copied, is_some, None, OnOk, OnErr, ◌==◌};
+ghost use Rattle.layers.specs.Rows.{at, With};
 
 use crate::kept::Kept;
-use crate::table::Table;
+use crate::table::{Full, Table};
+use arrayvec::ArrayVec;
+use disk::SectorBytes;
 
 impl Table {
     pub(crate) fn new() -> Table
-        ensures { rows result ≡ [] }
+        ensures { result.rows.items ≡ [] }
     {
         Table {
-            slots: [Kept {
-                sector: 0,
-                bytes: [0; 1024],
-            }; 16],
-            count: 0,
+            rows: ArrayVec::new(),
         }
     }
 
     /// Keeps nothing more.
     pub(crate) fn clear(&mut self)
-        ensures { rows self.new ≡ [] }
+        ensures { self.new.rows.items ≡ [] }
     {
-        self.count = 0;
+        self.rows.clear();
     }
 
     /// Whether nothing is kept.
     pub(crate) fn is_empty(&self) -> bool
-        ensures { result ≡ (length (rows self.now) == 0) }
+        ensures { result ≡ (length self.now.rows.items == 0) }
     {
-        self.count == 0
+        self.rows.is_empty()
     }
 
-    /// Where sector `n` stands, or the number of kept sectors.
-    fn place(&self, n: usize) -> usize
-        ensures { Place (rows self.now) n result }
+    /// Where sector `n` stands, if it is kept.
+    fn position(&self, n: usize) -> Option<usize>
+        ensures { result ≡ position (λ k. k.sector == n) self.now.rows.items }
     {
-        for i in 0..self.count {
-            if self.slots[i].sector == n {
-                return i;
-            }
-        }
-        self.count
+        self.rows.iter().position(|kept| kept.sector == n)
     }
 
-    /// Fills `into` with what is kept of sector `n`, if it is kept.
-    pub(crate) fn copy(&self, n: usize, into: &mut [u8; 1024]) -> bool
-        ensures { Copied (at (rows self.now) n) into.old result into.new }
+    /// What is kept of sector `n`, if it is kept.
+    pub(crate) fn get(&self, n: usize) -> Option<&SectorBytes>
+        ensures { option_copied result ≡ at self.now.rows.items n }
     {
-        let i = self.place(n);
-        if i < self.count {
-            *into = self.slots[i].bytes;
-            return true;
-        }
-        false
+        let i = self.position(n)?;
+        Some(&self.rows[i].bytes)
     }
 
     /// Keeps `bytes` as sector `n`, if that is kept already or there is room.
-    pub(crate) fn keep(&mut self, n: usize, bytes: &[u8; 1024]) -> bool
-        ensures { KeptOrFull (rows self.old) n bytes.now result (rows self.new) }
+    pub(crate) fn keep(&mut self, n: usize, bytes: &SectorBytes) -> Result<(), Full>
+        ensures kept { OnOk result (With self.old.rows.items n bytes.now self.new.rows.items) }
+        ensures room { OnOk result ((is_some (at self.old.rows.items n) ≡ true) ⊎ (length self.old.rows.items < 16)) }
+        ensures full { OnErr result (length self.old.rows.items ≡ 16) }
+        ensures other { OnErr result (at self.old.rows.items n ≡ None) }
+        ensures same { OnErr result (self.new.rows.items ≡ self.old.rows.items) }
     {
-        let i = self.place(n);
         let row = Kept {
             sector: n,
             bytes: *bytes,
         };
-        if i < self.count {
-            self.slots[i] = row;
-            return true;
+        match self.position(n) {
+            Some(i) => {
+                self.rows[i] = row;
+                Ok(())
+            }
+            None if self.rows.is_full() => Err(Full),
+            None => {
+                self.rows.push(row);
+                Ok(())
+            }
         }
-        if i < 16 {
-            self.slots[i] = row;
-            self.count = i + 1;
-            return true;
-        }
-        false
     }
 
     /// The sector kept last, if any is.
-    pub(crate) fn last(&self) -> Option<Kept>
-        ensures { Last (rows self.now) result }
+    pub(crate) fn last(&self) -> Option<&Kept>
+        ensures { option_copied result ≡ slice_get self.now.rows.items (length self.now.rows.items - 1) }
     {
-        if self.count == 0 {
-            return None;
-        }
-        Some(self.slots[self.count - 1])
+        self.rows.last()
     }
 
     /// Keeps the sector kept last no more.
     pub(crate) fn pop(&mut self)
-        ensures { rows self.new ≡ take (length (rows self.old) - 1) (rows self.old) }
+        ensures { self.new.rows.items ≡ take (length self.old.rows.items - 1) self.old.rows.items }
     {
-        self.count = self.count.saturating_sub(1);
+        let _ = self.rows.pop();
     }
 }

@@ -1,16 +1,15 @@
 use Rattle.std.proofs.Common.{length, Ok}
 use Rattle.layers.specs.Rows.{at}
-use Rattle.layers.specs.Tables.{rows}
 use Rattle.layers.specs.Holding.{held, Spills, Downs}
 use Rattle.layers.proofs.hold.Hold.put_all_down.Given as goal
 
 abbrev pub invariant-loop-self : goal.invariant-loop-self
 invariant-loop-self g l =
     Spills
-    (held (at (rows l.initial.self.table)) (g.D.Disk.meaning l.initial.self.below))
+    (held (at l.initial.self.table.rows.items) (g.D.Disk.meaning l.initial.self.below))
     (Ok tt)
-    (held (at (rows l.self.table)) (g.D.Disk.meaning l.self.below))
-    × Downs g.D.Disk.does (rows l.initial.self.table) l.initial.self.below (rows l.self.table) l.self.below
+    (held (at l.self.table.rows.items) (g.D.Disk.meaning l.self.below))
+    × Downs g.D.Disk.does l.initial.self.table.rows.items l.initial.self.below l.self.table.rows.items l.self.below
 
 abbrev pub decreases-loop-self : goal.decreases-loop-self
-decreases-loop-self g l = length (rows l.self.table)
+decreases-loop-self g l = length l.self.table.rows.items

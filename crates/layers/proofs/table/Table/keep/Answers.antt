@@ -1,53 +1,40 @@
-use Rattle.std.proofs.Common.{◌≡◌, is_some, refl, ap, inl, inr, arith, length-set, length-take}
-use Rattle.layers.proofs.Rows.{copied, missing, kept_in, count-in, tidy-in, kept-end, count-end, tidy-end}
+use Rattle.std.proofs.Common.{set, is_some, sym, refl, ap, ◌∙◌, inl, length-set}
+use Rattle.arrayvec.proofs.ArrayVecLemmas.{items-with_items}
+use Rattle.disk.specs.Meaning.{Whole}
+use Rattle.layers.specs.declared.kept.Kept.{Kept}
+use Rattle.layers.proofs.Rows.{tidy-push, with-push, at-none, tidy-put, with-put, at-position}
 use Rattle.layers.proofs.table.Table.keep.Goals as goal
 
 pub invariant_of-self : goal.invariant_of-self
 invariant_of-self c =
-    let t = c.args.self.now in
-    record {
-      small = omega arith;
-      long = simp length-set (omega arith);
-      neat = tidy-in t.slots t.count (omega arith) _ c.args.n c.place-i.result c.place-i.ensures refl c.if-i-self.true (record { long = c.told-bytes; bytes = c.fits-bytes }) t.neat;
-    }
+    let s = c.args.self.now.rows in
+    let v : Kept = record { sector = c.args.n; bytes = c.args.bytes.now } in
+    let full : Whole c.args.bytes.now = record { long = c.told-bytes; bytes = c.fits-bytes } in
+    let e = sym c.position.ensures ∙ c.in-Some.is in
+    record { tidy = rw (c.deref_mut.ensures.value, items-with_items s (set s.items c.in-Some.i v) (length-set s.items _ v)) (tidy-put s.items c.args.n c.in-Some.i v e refl full c.args.self.now.tidy) }
 
-pub returns-then-i-self : goal.returns-then-i-self
-returns-then-i-self c =
-    let t = c.args.self.now in (
-      record {
-        kept = kept_in t.slots t.count (omega arith) _ c.args.n c.place-i.result c.place-i.ensures refl c.if-i-self.true;
-        count = count-in t.slots t.count (omega arith) _ c.args.n c.place-i.result c.place-i.ensures refl c.if-i-self.true;
-      },
-      inl (ap is_some (copied t.slots t.count (omega arith) c.args.n c.place-i.result c.place-i.ensures c.if-i-self.true)),
-    )
+pub invariant_of-self-in-None-2 : goal.invariant_of-self-in-None-2
+invariant_of-self-in-None-2 c =
+    let full : Whole c.args.bytes.now = record { long = c.told-bytes; bytes = c.fits-bytes } in
+    let e = sym c.position.ensures ∙ c.in-None-2.is in
+    record { tidy = rw c.push.ensures.items (tidy-push c.args.self.now.rows.items c.args.n _ e refl full c.args.self.now.tidy) }
 
-pub invariant_of-self-then-i-lt16 : goal.invariant_of-self-then-i-lt16
-invariant_of-self-then-i-lt16 c =
-    let t = c.args.self.now in
-    let w = c.place-i.ensures.within in
-    let is : c.place-i.result ≡ t.count = omega (arith, simp length-take at w) in
-    record {
-      small = omega arith;
-      long = simp length-set (omega arith);
-      neat = tidy-end t.slots t.count (omega arith) _ c.args.n c.place-i.result c.place-i.ensures refl is (omega arith) (record { long = c.told-bytes; bytes = c.fits-bytes }) t.neat;
-    }
+pub returns-in-Some-clause-kept : goal.returns-in-Some-clause-kept
+returns-in-Some-clause-kept c =
+    let s = c.args.self.now.rows in
+    let v : Kept = record { sector = c.args.n; bytes = c.args.bytes.now } in
+    let e = sym c.position.ensures ∙ c.in-Some.is in
+    rw (c.deref_mut.ensures.value, items-with_items s (set s.items c.in-Some.i v) (length-set s.items _ v)) (with-put s.items c.args.n c.in-Some.i v e refl)
 
-pub returns-then-i-lt16 : goal.returns-then-i-lt16
-returns-then-i-lt16 c =
-    let t = c.args.self.now in
-    let w = c.place-i.ensures.within in
-    let is : c.place-i.result ≡ t.count = omega (arith, simp length-take at w) in (
-      record {
-        kept = kept-end t.slots t.count (omega arith) _ c.args.n c.place-i.result c.place-i.ensures refl is (omega arith);
-        count = count-end t.slots t.count (omega arith) _ c.args.n c.place-i.result c.place-i.ensures refl is (omega arith);
-      },
-      inr (simp length-take (omega arith)),
-    )
+pub returns-in-Some-clause-room : goal.returns-in-Some-clause-room
+returns-in-Some-clause-room c =
+    let v : Kept = record { sector = c.args.n; bytes = c.args.bytes.now } in
+    inl (ap is_some (at-position c.args.self.now.rows.items c.args.n c.in-Some.i v (sym c.position.ensures ∙ c.in-Some.is)))
 
-pub returns : goal.returns
-returns c =
-    let t = c.args.self.now in (
-      missing t.slots t.count (omega arith) c.args.n c.place-i.result c.place-i.ensures c.if-i-self.false,
-      simp length-take (let w = c.place-i.ensures.within in omega (arith, simp length-take at w)),
-      refl,
-    )
+pub returns-in-None-clause-other : goal.returns-in-None-clause-other
+returns-in-None-clause-other c = at-none c.args.self.now.rows.items c.args.n (sym c.position.ensures ∙ c.in-None.is)
+
+pub returns-in-None-2-clause-kept : goal.returns-in-None-2-clause-kept
+returns-in-None-2-clause-kept c =
+    let e = sym c.position.ensures ∙ c.in-None-2.is in
+    rw c.push.ensures.items (with-push c.args.self.now.rows.items c.args.n _ e refl)
