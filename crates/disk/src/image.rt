@@ -13,7 +13,6 @@ pub struct Image<'a> {
 }
 
 /// Fills `part` with `bytes`.
-// `as_chunks_mut` would lend sector `n` too, but says nothing of what the slice ends as.
 fn copy_in(part: &mut [u8], bytes: &SectorBytes)
     requires { length part.old ≡ 1024 }
     ensures { part.new ≡ bytes.now }
@@ -31,6 +30,7 @@ fn read_sector(all: &[u8], n: usize, into: &mut SectorBytes)
 }
 
 /// Writes sector `n` of `all`.
+// `as_chunks_mut` would lend sector `n` too, but says nothing of what the slice ends as.
 fn write_sector(all: &mut [u8], n: usize, bytes: &SectorBytes)
     requires { n < count all.old }
     ensures after { all.new ≡ written all.old n bytes.now }
@@ -48,6 +48,7 @@ impl Image<'_> {
         Image { bytes }
     }
 
+    /// Reads sector `n`. Through `&self`, so that a `get`, which has a `&mut self`, knows that the bytes stay.
     fn read(&self, n: usize, into: &mut SectorBytes)
         requires { n < count self.now.bytes.now }
         ensures { into.new ≡ sector self.now.bytes.now n }
