@@ -31,8 +31,7 @@ loop-i-preserved g c =
     let m₀ = g.D.Disk.meaning c.args.disk.now in
     let m' = g.D.Disk.meaning c.ask.new.disk in
     let e = sym (take_more ss i past c.loop-i-test.true) in
-    let h = c.in_default.ensures in
-    (
+    let h = c.in_default.ensures in (
       subst (λ (l : List Step). Kept m₀ l m') e (kept_more m₀ _ m' (take i ss) c.loop-i.invariant.0 (get_or ss i past) h.rule),
       subst (λ (l : List Step). Accepted g.D.Disk.does c.args.disk.now l c.ask.new.disk) e (more (get_or ss i past) c.loop-i.invariant.1 h.done),
     )
