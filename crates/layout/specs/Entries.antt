@@ -10,6 +10,7 @@ use Rattle.layout.specs.declared.entry.PageFault.{PageFault}
 use Rattle.layout.specs.declared.entry.PageFault.TheVariants.{Mark, RootCount, ParentCount, OtherCount, BadName, BadLink}
 use Rattle.layout.specs.Words.{Contents, word_size, word, stored, part}
 use Rattle.numbers.specs.Sectors.{address_step, address, leads, sector_at, as_due}
+pub use Rattle.numbers.specs.Sectors.{link_address}
 use Rattle.numbers.specs.Names.{name_size, every, is_name_field}
 
 -- the mark of a directory page, and where its fields stand; up to the entries the rest is 0
@@ -95,10 +96,6 @@ check_entry size leaf s =
     cond (is_name_field s.name.bytes) (cond (leads size s.file.0 && as_due size (not leaf) s.below.0) (Ok (entry_of size s)) (Err BadLink)) (Err BadName)
 
 -- the bytes of an entry
-abbrev pub link_address : Option Sector → ℕ
-link_address None = 0
-link_address (Some s) = address s.0
-
 abbrev pub entry_bytes : Entry → List ℕ
 entry_bytes e = e.name.bytes ++ (stored (address e.file.0) ++ stored (link_address e.below))
 

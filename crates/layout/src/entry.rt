@@ -86,12 +86,7 @@ pub enum PageFault {
 fn is_zero(bytes: &[u8]) -> bool
     ensures { result ≡ every (λ b. nat_eq b 0) bytes.now }
 {
-    for i in 0..bytes.len() {
-        if bytes[i] != 0 {
-            return false;
-        }
-    }
-    true
+    bytes.iter().all(|b| *b == 0)
 }
 
 impl PageHead {
@@ -155,7 +150,7 @@ pub(crate) fn put_entry(sector: &mut SectorBytes, at: usize, entry: &Entry)
     ensures long { length (entry_bytes entry.now) ≡ entry_size }
 {
     put_name(sector, at, &entry.name);
-    put(sector, at + FILE_AT, entry.file.address().0);
+    put(sector, at + FILE_AT, Address::from(entry.file).0);
     put(sector, at + BELOW_AT, link_address(entry.below).0);
 }
 
@@ -163,10 +158,7 @@ pub(crate) fn put_entry(sector: &mut SectorBytes, at: usize, entry: &Entry)
 pub(crate) fn link_address(link: Option<Sector>) -> Address
     ensures { result.0 ≡ link_address link }
 {
-    match link {
-        Some(sector) => sector.address(),
-        None => Address(0),
-    }
+    Address::from(link)
 }
 
 impl StoredEntry {

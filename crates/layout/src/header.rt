@@ -109,7 +109,7 @@ impl Header {
         ensures { result ≡ empty_header name own.0 }
     {
         let mut sectors = [Address(0); 64];
-        sectors[0] = own.address();
+        sectors[0] = Address::from(own);
         Header {
             name,
             length: Length(0),
@@ -149,13 +149,9 @@ impl Header {
         ensures { result ≡ links_due own.0 size self.now }
     {
         let last = self.length.last_sector();
-        if self.sectors[0].0 != own.address().0 {
-            return false;
-        }
-        if !are_as_due(&self.sectors, 1, last + 1, size) {
-            return false;
-        }
-        are_as_due(&self.tables, 0, tables_of(last), size)
+        self.sectors[0] == Address::from(own)
+            && are_as_due(&self.sectors, 1, last + 1, size)
+            && are_as_due(&self.tables, 0, tables_of(last), size)
     }
 
     // The header of the file whose first sector is `own`, on a disk of `size` sectors.

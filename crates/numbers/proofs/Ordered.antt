@@ -1,7 +1,9 @@
 -- The order of names.
-use Rattle.std.proofs.Common.{◌≡◌, ℕ, zero, suc, ◌+◌, ◌-◌, ◌<◌, ◌≤◌, true, List, [], ◌∷◌, ◌++◌, length, get_or, drop, replicate, refl, ap, ◌∙◌, subst, ap₂, arith}
+use Rattle.std.proofs.Common.{◌≡◌, ℕ, zero, suc, ◌+◌, ◌-◌, ◌<◌, true, List, [], ◌∷◌, ◌++◌, length, replicate, sym, refl, ap, ◌∙◌, subst, ap₂, arith}
 use Rattle.std.proofs.lemmas.Bool.{and_parts}
-use Rattle.std.proofs.lemmas.List.{drop_more, drop_all}
+use Rattle.std.proofs.lemmas.Cmp.{ranked, by_ranked}
+use Rattle.std.specs.Ordering.{nat_cmp}
+use Rattle.std.specs.Cmp.Lexicographic.{slice_cmp}
 use Rattle.numbers.specs.Names.{Key, name_size, letter_digit_dot, every, good_name, name_field}
 use Rattle.numbers.specs.Order.{Cmp, below, same, above, turn, then, cmpℕ, cmp, IsOrder, NameOrder}
 use Rattle.numbers.proofs.Naming.{good-every, good_length}
@@ -107,18 +109,14 @@ byte-order = record { turned = turned; carried = carried; alike = λ a b c e. ap
 pub name-order : NameOrder
 name-order = record { order = byte-order; exact = exact; stored_order = stored-order }
 
--- A COMPARE, BYTE BY BYTE
-module _ (a b : List ℕ) (i : ℕ) (la : i < length a) (lb : i < length b) where
-  pub step_less : get_or a i 0 < get_or b i 0 → cmp (drop i a) (drop i b) ≡ below
-  step_less h = ap₂ cmp (drop_more a i 0 la) (drop_more b i 0 lb) ∙ ap (λ (c : Cmp). then c (cmp (drop (i + 1) a) (drop (i + 1) b))) (lessℕ (get_or a i 0) (get_or b i 0) h)
+-- THE ORDER OF THE TYPE
+byte-cmp : (x y : ℕ) → nat_cmp x y ≡ cmpℕ x y
+byte-cmp x y =
+    by_ranked (x < y) (x ≡ y) (y < x) (nat_cmp x y) (ranked x y (nat_cmp x y) refl) (λ e h. e ∙ sym (lessℕ x y h))
+    (λ e h. e ∙ sym (subst (λ (n : ℕ). cmpℕ x n ≡ same) h (itselfℕ x))) (λ e h. e ∙ sym (moreℕ x y h))
 
-  pub step-more : get_or b i 0 < get_or a i 0 → cmp (drop i a) (drop i b) ≡ above
-  step-more h = ap₂ cmp (drop_more a i 0 la) (drop_more b i 0 lb) ∙ ap (λ (c : Cmp). then c (cmp (drop (i + 1) a) (drop (i + 1) b))) (moreℕ (get_or a i 0) (get_or b i 0) h)
-
-  pub step_same : get_or a i 0 ≡ get_or b i 0 → cmp (drop i a) (drop i b) ≡ cmp (drop (i + 1) a) (drop (i + 1) b)
-  step_same h =
-      ap₂ cmp (drop_more a i 0 la) (drop_more b i 0 lb)
-      ∙ ap (λ (c : Cmp). then c (cmp (drop (i + 1) a) (drop (i + 1) b))) (subst (λ (n : ℕ). cmpℕ (get_or a i 0) n ≡ same) h (itselfℕ (get_or a i 0)))
-
-pub step_end : (a b : List ℕ) (i : ℕ) → length a ≤ i → length b ≤ i → cmp (drop i a) (drop i b) ≡ same
-step_end a b i la lb = ap₂ cmp (drop_all i a la) (drop_all i b lb)
+pub type-order : (a b : Key) → slice_cmp nat_cmp a b ≡ cmp a b
+type-order [] [] = refl
+type-order [] (y ∷ ys) = refl
+type-order (x ∷ xs) [] = refl
+type-order (x ∷ xs) (y ∷ ys) = ap₂ then (byte-cmp x y) (type-order xs ys)
