@@ -75,17 +75,20 @@ count_fault Root false = ParentCount
 count_fault Other true = OtherCount
 count_fault Other false = OtherCount
 
--- entry i as it stands in the sector
+-- an entry as it stands from byte i on, and entry i of the page
 abbrev pub entry_at : ℕ → ℕ
 entry_at i = entries_at + entry_size * i
 
-abbrev pub stored_in : Contents → ℕ → StoredEntry
-stored_in c i =
+abbrev pub stored_at : Contents → ℕ → StoredEntry
+stored_at c i =
     record {
-      name = record { bytes = part c (entry_at i) name_size };
-      file = record { 0 = word c (entry_at i + file_at) };
-      below = record { 0 = word c (entry_at i + below_at) };
+      name = record { bytes = part c i name_size };
+      file = record { 0 = word c (i + file_at) };
+      below = record { 0 = word c (i + below_at) };
     }
+
+abbrev pub stored_in : Contents → ℕ → StoredEntry
+stored_in c i = stored_at c (entry_at i)
 
 -- its name is good, its file is a sector of the disk, and so is the page below unless the page is a leaf
 abbrev pub entry_of : ℕ → StoredEntry → Entry
@@ -95,9 +98,15 @@ abbrev pub check_entry : ℕ → Bool → StoredEntry → Result Entry PageFault
 check_entry size leaf s =
     cond (is_name_field s.name.bytes) (cond (leads size s.file.0 && as_due size (not leaf) s.below.0) (Ok (entry_of size s)) (Err BadLink)) (Err BadName)
 
--- the bytes of an entry
+-- an entry as it is stored, and its bytes
+abbrev pub stored_form : Entry → StoredEntry
+stored_form e = record { name = e.name; file = record { 0 = address e.file.0 }; below = record { 0 = link_address e.below } }
+
+abbrev pub stored_entry_bytes : StoredEntry → List ℕ
+stored_entry_bytes s = s.name.bytes ++ (stored s.file.0 ++ stored s.below.0)
+
 abbrev pub entry_bytes : Entry → List ℕ
-entry_bytes e = e.name.bytes ++ (stored (address e.file.0) ++ stored (link_address e.below))
+entry_bytes e = stored_entry_bytes (stored_form e)
 
 abbrev pub all_entry_bytes : List Entry → List ℕ
 all_entry_bytes [] = []

@@ -5,22 +5,16 @@ ghost use Rattle.layout.specs.Tables.{ExtensionTables};
 ghost use Rattle.layout.specs.Words.{StoredNumbers};
 
 // What holds of stored numbers.
-pub fn numbers_stand() -> u8
+pub fn numbers_stand()
     ensures { StoredNumbers }
-{
-    0
-}
+{}
 
 // What holds of first sectors and extension tables.
-pub fn headers_stand() -> u8
+pub fn headers_stand()
     ensures { (FirstSectors) × (ExtensionTables) }
-{
-    0
-}
+{}
 
 // What holds of directory pages.
-pub fn pages_stand() -> u8
+pub fn pages_stand()
     ensures { DirectoryPages }
-{
-    0
-}
+{}
