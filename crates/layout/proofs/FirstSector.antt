@@ -15,22 +15,10 @@ use Rattle.layout.specs.Headers.{file_mark, mark_at, name_at, last_at, used_at, 
 use Rattle.layout.proofs.Numbers.{word-past, word-stored, word-whole, word_fits}
 use Rattle.numbers.proofs.Sizes.{most, back, good, only, used}
 use Rattle.layout.proofs.Writing.{length-stored_all, words-at, words-whole, words-fit, length-words, part_at, part-whole, length_part}
+use Rattle.layout.proofs.Reading.{numbers-in, addresses-at}
 use Rattle.layout.proofs.Heading.{header_read}
 
 -- ADDRESSES AND NUMBERS
-pub numbered : (list : List Address) → map (λ (w : ℕ). record { 0 = w }) (numbers list) ≡ list
-numbered [] = refl
-numbered (a ∷ list) = ap (λ (t : List Address). a ∷ t) (numbered list)
-
-pub numbers-in : (ws : List ℕ) → numbers (map (λ (w : ℕ). record { 0 = w }) ws) ≡ ws
-numbers-in [] = refl
-numbers-in (w ∷ ws) = ap (λ (t : List ℕ). w ∷ t) (numbers-in ws)
-
-pub addresses-at : (p q : Contents) (list : List Address) (n m : ℕ) → length p ≡ n → length list ≡ m → AllByRecursion (λ w. w < 2 ^ 32) (numbers list) → list ≡ addresses_in (p ++ (stored_all (numbers list) ++ q)) n m
-addresses-at p q list n m e l h =
-    let k : length (numbers list) ≡ m = length-map list (λ (a : Address). a.0) ∙ l in
-    sym (ap (map (λ (w : ℕ). record { 0 = w })) (subst (λ (j : ℕ). words (p ++ (stored_all (numbers list) ++ q)) n j ≡ numbers list) k (words-at p q (numbers list) n e h)) ∙ numbered list)
-
 pub length-addresses : (c : Contents) (i n : ℕ) → length (addresses_in c i n) ≡ n
 length-addresses c i n =
     let f : ℕ → Address = λ w. record { 0 = w } in

@@ -1,5 +1,7 @@
 -- The fields of a directory page as they stand in its sector.
-use Rattle.std.specs.Prelude.{ℕ, ◌+◌, ◌-◌, ◌*◌, ◌/◌, Bool, true, false, cond, not, ◌&&◌, List, [], ◌∷◌, ◌++◌, Some, None, Ok, Err, Option, Result, ◌==◌, nat_eq, nat_le}
+use Rattle.std.specs.Prelude.{◌≡◌, ℕ, ◌+◌, ◌-◌, ◌*◌, ◌/◌, ◌^◌, ◌<◌, ◌≤◌, Bool, true, false, cond, not, ◌&&◌, List, [], ◌∷◌, ◌++◌, length, Some, None, Ok, Err, Option, Result, ◌==◌, nat_eq, nat_le}
+use Rattle.std.specs.List.{AllByRecursion}
+use Rattle.numbers.specs.declared.sector.Address.{Address}
 use Rattle.numbers.specs.declared.sector.Sector.{Sector}
 use Rattle.layout.specs.declared.entry.Entry.{Entry}
 use Rattle.layout.specs.declared.entry.StoredEntry.{StoredEntry}
@@ -8,7 +10,7 @@ use Rattle.layout.specs.declared.entry.PageKind.{PageKind}
 use Rattle.layout.specs.declared.entry.PageKind.TheVariants.{Root, Other}
 use Rattle.layout.specs.declared.entry.PageFault.{PageFault}
 use Rattle.layout.specs.declared.entry.PageFault.TheVariants.{Mark, RootCount, ParentCount, OtherCount, BadName, BadLink}
-use Rattle.layout.specs.Words.{Contents, word_size, word, stored, part}
+use Rattle.layout.specs.Words.{Contents, word_size, word, stored, stored_all, part, written, numbers, addresses_in}
 use Rattle.numbers.specs.Sectors.{address_step, address, leads, sector_at, as_due}
 pub use Rattle.numbers.specs.Sectors.{link_address}
 use Rattle.numbers.specs.Names.{name_size, every, is_name_field}
@@ -111,3 +113,9 @@ entry_bytes e = stored_entry_bytes (stored_form e)
 abbrev pub all_entry_bytes : List Entry → List ℕ
 all_entry_bytes [] = []
 all_entry_bytes (e ∷ es) = entry_bytes e ++ all_entry_bytes es
+
+-- what was written from byte i on is read again there: a name or other bytes, addresses, an entry
+pub record StoredValues : Type 0 where
+  pub bytes : (c : Contents) (i n : ℕ) (bs : List ℕ) → length bs ≡ n → i + n ≤ length c → part (written c i bs) i n ≡ bs
+  pub addresses : (c : Contents) (i n : ℕ) (list : List Address) → length list ≡ n → AllByRecursion (λ w. w < 2 ^ 32) (numbers list) → i + word_size * n ≤ length c → addresses_in (written c i (stored_all (numbers list))) i n ≡ list
+  pub entry : (c : Contents) (i : ℕ) (s : StoredEntry) → length s.name.bytes ≡ name_size → s.file.0 < 2 ^ 32 → s.below.0 < 2 ^ 32 → i + entry_size ≤ length c → stored_at (written c i (stored_entry_bytes s)) i ≡ s

@@ -1,12 +1,14 @@
 // Laws of the format, each stated by the contract of a function.
+ghost use Rattle.layout.specs.Entries.{StoredValues};
 ghost use Rattle.layout.specs.Headers.{FirstSectors};
 ghost use Rattle.layout.specs.Pages.{DirectoryPages};
 ghost use Rattle.layout.specs.Tables.{ExtensionTables};
 ghost use Rattle.layout.specs.Words.{StoredNumbers};
 
-// What holds of stored numbers.
+// What holds of stored numbers, and of the other values that are stored.
 pub fn numbers_stand()
-    ensures { StoredNumbers }
+    ensures numbers { StoredNumbers }
+    ensures values { StoredValues }
 {}
 
 // What holds of first sectors and extension tables.
