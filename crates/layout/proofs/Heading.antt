@@ -11,7 +11,7 @@ use Rattle.layout.specs.Words.{Contents, word_size, word, words, stored, stored_
 use Rattle.numbers.specs.Names.{name_size}
 use Rattle.numbers.specs.Lengths.{most_tables, near_sectors, length_of, good_end, last_sector, tables}
 use Rattle.layout.specs.Headers.{file_mark, mark_at, name_at, last_at, used_at, date_at, tables_at, near_at, numbers, addresses_in, fields_in, read_header, links_due}
-use Rattle.layout.proofs.Writing.{written-more, length-stored_all, stored_all-push, words-push}
+use Rattle.layout.proofs.Writing.{written-more, length-stored_all, stored_all-push}
 
 -- ADDRESSES, ONE MORE
 pub put-one-more : (c s : Contents) (at i v : ℕ) (list : List Address) (d : Address) → at + word_size * length list ≤ length c → i < length list → v ≡ (get_or list i d).0 → s ≡ written c at (stored_all (numbers (take i list))) → written s (at + 4 * i) (stored v) ≡ written c at (stored_all (numbers (take (i + 1) list)))
