@@ -1,5 +1,5 @@
 -- What holds of first sectors and extension tables as they are stored.
-use Rattle.std.proofs.Common.{◌≡◌, ℕ, ◌+◌, ◌^◌, ◌<◌, ◌≤◌, Bool, true, false, cond, eqb, List, [], ◌∷◌, ◌++◌, map, length, drop, Ok, Err, Result, sym, refl, ap, ◌∙◌, subst, ap₂, append_assoc, arith}
+use Rattle.std.proofs.Common.{◌≡◌, ℕ, ◌+◌, ◌^◌, ◌<◌, ◌≤◌, Bool, true, false, cond, eqb, List, ◌++◌, length, drop, Ok, Err, Result, sym, refl, ap, ◌∙◌, subst, ap₂, append_assoc, arith}
 use Rattle.std.specs.List.{AllByRecursion}
 use Rattle.std.proofs.lemmas.List.{length-append, length-map}
 use Rattle.std.proofs.lemmas.Bool.{eqb-true, eq-eqb, and_from}
@@ -14,7 +14,7 @@ use Rattle.numbers.specs.Lengths.{header_size, most_tables, near_sectors, longes
 use Rattle.layout.specs.Headers.{file_mark, mark_at, name_at, last_at, used_at, date_at, tables_at, near_at, numbers, addresses_in, header_bytes, fields_in, read_header, links_due, linked, header_in, IsHeader, FirstSectors}
 use Rattle.layout.proofs.Numbers.{word-past, word-stored, word-whole, word_fits}
 use Rattle.numbers.proofs.Sizes.{most, back, good, only, used}
-use Rattle.layout.proofs.Writing.{length-stored_all, words-at, words-whole, words-fit, length-words, part_at, part-whole, length_part}
+use Rattle.layout.proofs.Writing.{length-stored_all, words-whole, words-fit, length-words, part_at, part-whole, length_part}
 use Rattle.layout.proofs.Reading.{numbers-in, addresses-at}
 use Rattle.layout.proofs.Heading.{header_read}
 
@@ -138,9 +138,9 @@ read-says own size c h e = go (eqb (word c mark_at) file_mark) (good_end (word c
         ok_same e = cc
     go true true false p q r e =
         let k : cond (links_due own size (fields_in c)) (Ok (fields_in c)) (Err Link) ≡ Err Link = ap (λ (b : Bool). cond b (Ok (fields_in c)) (Err Link)) r in
-        let z : ◌≡◌ {A = ℕ} 0 1 = cc in absurd (omega arith)
-    go true false z p q r e = let z : ◌≡◌ {A = ℕ} 0 1 = cc in absurd (omega arith)
-    go false y z p q r e = let z : ◌≡◌ {A = ℕ} 0 1 = cc in absurd (omega arith)
+        cc
+    go true false z p q r e = cc
+    go false y z p q r e = cc
 
 fields-typed : (c : Contents) → length c ≡ sector_size → Bytes c → IsHeader (fields_in c)
 fields-typed c l b =

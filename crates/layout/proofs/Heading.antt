@@ -1,13 +1,13 @@
 -- A file's first sector.
-use Rattle.std.proofs.Common.{◌≡◌, ℕ, suc, ◌+◌, ◌*◌, ◌<◌, ◌≤◌, Bool, true, false, ◌&&◌, eqb, ltb, List, [], ◌∷◌, ◌++◌, map, length, get_or, take, drop, set, Ok, sym, refl, ap, ◌∙◌, ap₂, append_assoc, arith}
+use Rattle.std.proofs.Common.{◌≡◌, ℕ, suc, ◌+◌, ◌*◌, ◌<◌, ◌≤◌, Bool, true, ◌&&◌, eqb, ltb, List, [], ◌∷◌, ◌++◌, length, get_or, take, drop, Ok, sym, refl, ap, ◌∙◌, append_assoc, arith}
 use Rattle.std.specs.List.{list_all, enumerate_from}
 use Rattle.std.proofs.lemmas.Bool.Decides.{nat_tests}
-use Rattle.std.proofs.lemmas.Bool.{eq-eqb, ne_eqb, and_left, and_right}
+use Rattle.std.proofs.lemmas.Bool.{eq-eqb}
 use Rattle.layout.specs.declared.header.Header.{Header}
 use Rattle.numbers.specs.Sectors.{address, as_due, due_from}
-use Rattle.std.proofs.lemmas.List.{length-append, length-map, length-take-le, get_or-map, at_drop_more, at_drop_all, map_more, drop-map, take_all, length-drop}
+use Rattle.std.proofs.lemmas.List.{length-append, length-map, length-take-le, get_or-map, map_more, drop-map, take_all, length-drop}
 use Rattle.numbers.specs.declared.sector.Address.{Address}
-use Rattle.layout.specs.Words.{Contents, word_size, word, words, stored, stored_all, part, written}
+use Rattle.layout.specs.Words.{Contents, word_size, word, stored, stored_all, part, written}
 use Rattle.numbers.specs.Names.{name_size}
 use Rattle.numbers.specs.Lengths.{most_tables, near_sectors, length_of, good_end, last_sector, tables}
 use Rattle.layout.specs.Headers.{file_mark, mark_at, name_at, last_at, used_at, date_at, tables_at, near_at, numbers, addresses_in, fields_in, read_header, links_due}

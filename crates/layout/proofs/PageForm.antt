@@ -14,11 +14,11 @@ use Rattle.numbers.specs.Sectors.{address_step, address, leads, sector_at, as_du
 use Rattle.numbers.specs.Names.{name_size, every, name_in, is_name_field}
 use Rattle.layout.specs.Entries.{page_mark, page_mark_at, count_at, first_at, zeros_at, entries_at, entry_size, file_at, below_at, most_entries, head_in, least_of, count_fits, count_fault, entry_at, stored_in, entry_of, check_entry, link_address, stored_form, entry_bytes, all_entry_bytes}
 use Rattle.layout.specs.Pages.{PageData, page_front, page_bytes, prepend, rows_in, with_rows, with_head, page_in, no_page, LinkFits, EntryFits, PageFits, DirectoryPages}
-use Rattle.layout.proofs.Numbers.{word-past, word-stored, word-whole}
+use Rattle.layout.proofs.Numbers.{word-stored, word-whole}
 use Rattle.numbers.proofs.Linking.{leads-says, leads-from, led-to}
 use Rattle.numbers.proofs.Naming.{only, sized}
 use Rattle.layout.proofs.Reading.{entry-between}
-use Rattle.layout.proofs.Writing.{part_at, part-whole, length_part, length-written}
+use Rattle.layout.proofs.Writing.{part-whole, length_part, length-written}
 
 -- LINKS
 link-due : (size : ℕ) (leaf : Bool) (l : Option Sector) → LinkFits size leaf l → as_due size (not leaf) (link_address l) ≡ true

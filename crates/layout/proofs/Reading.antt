@@ -9,7 +9,7 @@ use denote.Param.Members.{Mut}
 use Rattle.numbers.specs.declared.sector.Address.{Address}
 use Rattle.numbers.specs.Names.{name_size}
 use Rattle.layout.specs.declared.entry.StoredEntry.{StoredEntry}
-use Rattle.layout.specs.Words.{Contents, word_size, word, words, stored, stored_all, part, written, numbers, addresses_in}
+use Rattle.layout.specs.Words.{Contents, word_size, word, words, stored, stored_all, part, numbers, addresses_in}
 use Rattle.layout.specs.Entries.{StoredValues, file_at, below_at, stored_at, stored_entry_bytes}
 use Rattle.layout.proofs.Numbers.{word-past, word-stored}
 use Rattle.layout.proofs.Writing.{length-words, words-at, part_at}

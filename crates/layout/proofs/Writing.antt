@@ -1,8 +1,8 @@
 -- Fields written and read one after another.
-use Rattle.std.proofs.Common.{◌≡◌, ℕ, zero, suc, ◌+◌, ◌*◌, ◌^◌, ◌<◌, ◌≤◌, List, [], ◌∷◌, ◌++◌, length, take, drop, sym, refl, ap, ◌∙◌, ap₂, append_assoc, append-nil, arith}
+use Rattle.std.proofs.Common.{◌≡◌, ℕ, zero, suc, ◌+◌, ◌*◌, ◌^◌, ◌<◌, ◌≤◌, List, [], ◌∷◌, ◌++◌, length, take, drop, sym, refl, ap, ◌∙◌, ap₂, append_assoc, arith}
 use Rattle.std.specs.List.{AllByRecursion}
-use Rattle.std.proofs.lemmas.List.{length-append, length-take-le, length-drop, take_at, drop_at, drop_all, drop-drop, take-append-drop}
-use Rattle.layout.specs.Words.{Contents, Bytes, word_size, word, words, stored, stored_all, part, written}
+use Rattle.std.proofs.lemmas.List.{length-append, length-take-le, length-drop, take_at, drop_at, drop-drop, take-append-drop}
+use Rattle.layout.specs.Words.{Contents, Bytes, word_size, word, words, stored, stored_all, written}
 use Rattle.layout.proofs.Numbers.{word_at, word-whole, word_fits}
 pub use Rattle.layout.proofs.Numbers.{part_at, part-whole, length_part}
 

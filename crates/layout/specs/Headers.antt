@@ -1,5 +1,5 @@
 -- A file's first sector, and its extension tables.
-use Rattle.std.specs.Prelude.{◌≡◌, ℕ, ◌+◌, ◌^◌, ◌<◌, ◌≤◌, Bool, true, cond, ◌&&◌, List, ◌++◌, map, length, drop, replicate, Ok, Err, Result, ◌==◌, slice_index, slice_set}
+use Rattle.std.specs.Prelude.{◌≡◌, ℕ, ◌+◌, ◌^◌, ◌<◌, ◌≤◌, Bool, true, cond, ◌&&◌, List, ◌++◌, length, drop, replicate, Ok, Err, Result, ◌==◌, slice_index, slice_set}
 use Rattle.std.specs.List.{AllByRecursion}
 use Rattle.numbers.specs.declared.name.Name.{Name}
 use Rattle.layout.specs.declared.header.Header.{Header}

@@ -34,17 +34,17 @@ const SECTORS_AT: usize = 96;
 // The addresses there of extension tables, and of file sectors.
 pub const MOST_TABLES: usize = 12;
 
-pub const NEAR: usize = NEAR_SECTORS as usize;
+pub const NEAR_ADDRESSES: usize = NEAR_SECTORS as usize;
 
 // The part of a file's first sector that stands before the data.
-#[derive(Clone, Copy, Debug)]
+#[derive(Clone, Copy, Debug, Default)]
 pub struct Header {
     pub name: Name,
     pub length: Length,
     pub date: u32,
     // The addresses of the extension tables, and of file sectors 0 to 63; past the end they are 0.
     pub tables: [Address; MOST_TABLES],
-    pub sectors: [Address; NEAR],
+    pub sectors: [Address; NEAR_ADDRESSES],
 }
 
 // Why a sector is not the first one of a file.
@@ -86,7 +86,7 @@ impl Header {
     pub fn new(name: Name, own: Sector) -> Header
         ensures { result ≡ empty_header name own.0 }
     {
-        let mut sectors = [Address::default(); NEAR];
+        let mut sectors = [Address::default(); NEAR_ADDRESSES];
         sectors[0] = Address::from(own);
         Header {
             name,
@@ -104,8 +104,9 @@ impl Header {
         if u32::load(sector, MARK_AT) != FILE_MARK {
             return Err(HeaderFault::Mark);
         }
-        let length = Length::from_end(u32::load(sector, LAST_AT), u32::load(sector, USED_AT))
-            .ok_or(HeaderFault::End)?;
+        let length = Length::from_end(u32::load(sector, LAST_AT), u32::load(sector, USED_AT)).ok_or(
+            HeaderFault::End,
+        )?;
         Ok(Header {
             name: Name::load(sector, NAME_AT),
             length,

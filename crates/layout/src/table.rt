@@ -9,12 +9,12 @@ use numbers::length::{LAST_OF_LONGEST, NEAR_SECTORS, TABLE_SECTORS};
 use numbers::sector::Address;
 
 // The addresses in a table.
-pub const TABLE_SIZE: usize = TABLE_SECTORS as usize;
+pub const TABLE_ADDRESSES: usize = TABLE_SECTORS as usize;
 
 // An extension table: the addresses of 256 file sectors. Past the end of the file they are left free.
 #[derive(Clone, Copy, Debug)]
 pub struct Table {
-    pub sectors: [Address; TABLE_SIZE],
+    pub sectors: [Address; TABLE_ADDRESSES],
 }
 
 impl Table {

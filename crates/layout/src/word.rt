@@ -3,14 +3,14 @@ ghost use Rattle.std.specs.Prelude.{◌≡◌, ℕ, ◌+◌, ◌*◌, ◌<◌, �
 ghost use Rattle.numbers.specs.Names.{name_size};
 ghost use Rattle.layout.specs.Words.{Contents, blank, word, stored, stored_all, part, written, sector_size, word_size, numbers, addresses_in};
 
+use numbers::length;
 use numbers::name::{NAME_SIZE, Name};
 use numbers::sector::Address;
-use std::array;
 use std::error::Error;
-use std::fmt;
+use std::{array, fmt};
 
 // The bytes of a sector, and of a stored number.
-pub const SECTOR_SIZE: usize = 1024;
+pub const SECTOR_SIZE: usize = length::SECTOR_SIZE as usize;
 
 pub(crate) const WORD_SIZE: usize = 4;
 

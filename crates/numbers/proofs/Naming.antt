@@ -5,7 +5,8 @@ use Rattle.std.proofs.lemmas.Slice.Eq.{bytes_eq-Decides}
 use Rattle.std.specs.List.{position, position_or_len}
 use Rattle.std.proofs.Math.Bool.{and-true}
 use Rattle.std.proofs.lemmas.List.{take_all, drop-replicate, length-append, length-replicate}
-use Rattle.std.proofs.lemmas.Bool.{and_parts, and_from, le-leb, leb-true, ltb-false, ne_eqb}
+use Rattle.std.proofs.lemmas.Bool.Decides.{nat_tests}
+use Rattle.std.proofs.lemmas.Bool.{and_parts, and_from, le-leb, ltb-false, ne_eqb}
 use Rattle.numbers.specs.Names.{Key, longest_name, name_size, letter, letter_digit_dot, every, good_name, name_field, name_in, is_name_field, NameFields}
 
 -- GOOD NAMES
@@ -16,9 +17,7 @@ good-by-rest (b ∷ bs) l a h = rw (a, le-leb (length (b ∷ bs)) longest_name h
 
 pub good_length : (k : Key) → good_name k ≡ true → length k ≤ longest_name
 good_length [] h = omega arith
-good_length (b ∷ bs) h =
-    let p = and_parts (letter b) (every letter_digit_dot bs && leb (length (b ∷ bs)) longest_name) h in
-    leb-true (length (b ∷ bs)) longest_name (and_parts (every letter_digit_dot bs) (leb (length (b ∷ bs)) longest_name) p.1).1
+good_length (b ∷ bs) h = grind (arith, nat_tests)
 
 -- FIELDS
 name-front : (f : List ℕ) → take (position_or_len (λ b. eqb b 0) f) f ≡ name_in f
@@ -51,7 +50,7 @@ zero-filled t ys e = ap₂ ◌++◌ e (drop-replicate (length t) name_size 0)
 back-again : (xs : List ℕ) (m : ℕ) → every letter_digit_dot xs ≡ true → name_in (xs ++ replicate m 0) ≡ xs
 back-again [] zero h = refl
 back-again [] (suc m) h = refl
-back-again (zero ∷ xs) m h = let z : ◌≡◌ {A = ℕ} 0 1 = cc in absurd (omega arith)
+back-again (zero ∷ xs) m h = cc
 back-again (suc x ∷ xs) m h = ap (λ (l : List ℕ). suc x ∷ l) (back-again xs m (and_parts (letter_digit_dot (suc x)) (every letter_digit_dot xs) h).1)
 
 -- each byte of a good name is a letter, a digit or a dot, so none is 0

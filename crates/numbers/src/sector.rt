@@ -43,6 +43,7 @@ impl Address {
     }
 
     // The sector that the address leads to on a disk of `size` sectors: a multiple of 29, its number from 2 to size - 1.
+    // No `TryFrom`, since the size decides too.
     pub fn sector(self, size: u16) -> Option<Sector>
         ensures { result ≡ sector_at size self.0 }
     {

@@ -1,7 +1,7 @@
-use Rattle.std.proofs.Common.{rules, ◌≡◌, ◌*◌, length, refl, arith, ◌∙◌}
+use Rattle.std.proofs.Common.{refl, arith, ◌∙◌}
 use Rattle.std.proofs.lemmas.List.{length-map}
 use Rattle.numbers.specs.declared.sector.Address.{Address}
-use Rattle.layout.specs.Words.{word_size, stored_all, numbers}
+use Rattle.layout.specs.Words.{numbers}
 use Rattle.layout.proofs.Writing.{length-stored_all}
 use Rattle.layout.proofs.Heading.{put-one-more}
 use Rattle.layout.proofs.word.ArrayAddressStored.store.Goals as goal
