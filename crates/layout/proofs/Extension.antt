@@ -9,7 +9,7 @@ use Rattle.numbers.specs.Lengths.{near_sectors, table_sectors, tables}
 use Rattle.layout.specs.Headers.{numbers, addresses_in}
 use Rattle.layout.specs.Tables.{table_bytes, table_in, table_place, ExtensionTables}
 use Rattle.layout.proofs.Writing.{words-whole}
-use Rattle.layout.proofs.FirstSector.{addresses-at, numbers-in}
+use Rattle.layout.proofs.Reading.{addresses-at, numbers-in}
 
 table-back : (t : Table) → length t.sectors ≡ table_sectors → AllByRecursion (λ w. w < 2 ^ 32) (numbers t.sectors) → table_in (table_bytes t) ≡ t
 table-back t l h =

@@ -1,5 +1,5 @@
 -- What holds of first sectors and extension tables as they are stored.
-use Rattle.std.proofs.Common.{◌≡◌, ℕ, ◌+◌, ◌^◌, ◌<◌, ◌≤◌, Bool, true, false, cond, eqb, List, [], ◌∷◌, ◌++◌, map, length, drop, Ok, Err, Result, sym, refl, ap, ◌∙◌, subst, ap₂, append_assoc, arith}
+use Rattle.std.proofs.Common.{◌≡◌, ℕ, ◌+◌, ◌^◌, ◌<◌, ◌≤◌, Bool, true, false, cond, eqb, List, ◌++◌, length, drop, Ok, Err, Result, sym, refl, ap, ◌∙◌, subst, ap₂, append_assoc, arith}
 use Rattle.std.specs.List.{AllByRecursion}
 use Rattle.std.proofs.lemmas.List.{length-append, length-map}
 use Rattle.std.proofs.lemmas.Bool.{eqb-true, eq-eqb, and_from}
@@ -14,23 +14,11 @@ use Rattle.numbers.specs.Lengths.{header_size, most_tables, near_sectors, longes
 use Rattle.layout.specs.Headers.{file_mark, mark_at, name_at, last_at, used_at, date_at, tables_at, near_at, numbers, addresses_in, header_bytes, fields_in, read_header, links_due, linked, header_in, IsHeader, FirstSectors}
 use Rattle.layout.proofs.Numbers.{word-past, word-stored, word-whole, word_fits}
 use Rattle.numbers.proofs.Sizes.{most, back, good, only, used}
-use Rattle.layout.proofs.Writing.{length-stored_all, words-at, words-whole, words-fit, length-words, part_at, part-whole, length_part}
+use Rattle.layout.proofs.Writing.{length-stored_all, words-whole, words-fit, length-words, part_at, part-whole, length_part}
+use Rattle.layout.proofs.Reading.{numbers-in, addresses-at}
 use Rattle.layout.proofs.Heading.{header_read}
 
 -- ADDRESSES AND NUMBERS
-pub numbered : (list : List Address) → map (λ (w : ℕ). record { 0 = w }) (numbers list) ≡ list
-numbered [] = refl
-numbered (a ∷ list) = ap (λ (t : List Address). a ∷ t) (numbered list)
-
-pub numbers-in : (ws : List ℕ) → numbers (map (λ (w : ℕ). record { 0 = w }) ws) ≡ ws
-numbers-in [] = refl
-numbers-in (w ∷ ws) = ap (λ (t : List ℕ). w ∷ t) (numbers-in ws)
-
-pub addresses-at : (p q : Contents) (list : List Address) (n m : ℕ) → length p ≡ n → length list ≡ m → AllByRecursion (λ w. w < 2 ^ 32) (numbers list) → list ≡ addresses_in (p ++ (stored_all (numbers list) ++ q)) n m
-addresses-at p q list n m e l h =
-    let k : length (numbers list) ≡ m = length-map list (λ (a : Address). a.0) ∙ l in
-    sym (ap (map (λ (w : ℕ). record { 0 = w })) (subst (λ (j : ℕ). words (p ++ (stored_all (numbers list) ++ q)) n j ≡ numbers list) k (words-at p q (numbers list) n e h)) ∙ numbered list)
-
 pub length-addresses : (c : Contents) (i n : ℕ) → length (addresses_in c i n) ≡ n
 length-addresses c i n =
     let f : ℕ → Address = λ w. record { 0 = w } in
@@ -150,9 +138,9 @@ read-says own size c h e = go (eqb (word c mark_at) file_mark) (good_end (word c
         ok_same e = cc
     go true true false p q r e =
         let k : cond (links_due own size (fields_in c)) (Ok (fields_in c)) (Err Link) ≡ Err Link = ap (λ (b : Bool). cond b (Ok (fields_in c)) (Err Link)) r in
-        let z : ◌≡◌ {A = ℕ} 0 1 = cc in absurd (omega arith)
-    go true false z p q r e = let z : ◌≡◌ {A = ℕ} 0 1 = cc in absurd (omega arith)
-    go false y z p q r e = let z : ◌≡◌ {A = ℕ} 0 1 = cc in absurd (omega arith)
+        cc
+    go true false z p q r e = cc
+    go false y z p q r e = cc
 
 fields-typed : (c : Contents) → length c ≡ sector_size → Bytes c → IsHeader (fields_in c)
 fields-typed c l b =

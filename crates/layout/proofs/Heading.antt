@@ -1,15 +1,17 @@
 -- A file's first sector.
-use Rattle.std.proofs.Common.{◌≡◌, ℕ, suc, ◌+◌, ◌*◌, ◌<◌, ◌≤◌, Bool, true, false, ◌&&◌, eqb, ltb, List, [], ◌∷◌, ◌++◌, map, length, get_or, take, drop, set, Ok, sym, refl, ap, ◌∙◌, ap₂, append_assoc, arith}
-use Rattle.std.proofs.lemmas.Bool.{eq-eqb, ne_eqb, and_left, and_right}
+use Rattle.std.proofs.Common.{◌≡◌, ℕ, suc, ◌+◌, ◌*◌, ◌<◌, ◌≤◌, Bool, true, ◌&&◌, eqb, ltb, List, [], ◌∷◌, ◌++◌, length, get_or, take, drop, Ok, sym, refl, ap, ◌∙◌, append_assoc, arith}
+use Rattle.std.specs.List.{list_all, enumerate_from}
+use Rattle.std.proofs.lemmas.Bool.Decides.{nat_tests}
+use Rattle.std.proofs.lemmas.Bool.{eq-eqb}
 use Rattle.layout.specs.declared.header.Header.{Header}
 use Rattle.numbers.specs.Sectors.{address, as_due, due_from}
-use Rattle.std.proofs.lemmas.List.{length-append, length-map, length-take-le, get_or-map, at_drop_more, at_drop_all, map_more, take_more_set, map-append}
+use Rattle.std.proofs.lemmas.List.{length-append, length-map, length-take-le, get_or-map, map_more, drop-map, take_all, length-drop}
 use Rattle.numbers.specs.declared.sector.Address.{Address}
-use Rattle.layout.specs.Words.{Contents, word_size, word, words, stored, stored_all, part, written}
+use Rattle.layout.specs.Words.{Contents, word_size, word, stored, stored_all, part, written}
 use Rattle.numbers.specs.Names.{name_size}
 use Rattle.numbers.specs.Lengths.{most_tables, near_sectors, length_of, good_end, last_sector, tables}
 use Rattle.layout.specs.Headers.{file_mark, mark_at, name_at, last_at, used_at, date_at, tables_at, near_at, numbers, addresses_in, fields_in, read_header, links_due}
-use Rattle.layout.proofs.Writing.{written-more, length-stored_all, stored_all-push, words-push}
+use Rattle.layout.proofs.Writing.{written-more, length-stored_all, stored_all-push}
 
 -- ADDRESSES, ONE MORE
 pub put-one-more : (c s : Contents) (at i v : ℕ) (list : List Address) (d : Address) → at + word_size * length list ≤ length c → i < length list → v ≡ (get_or list i d).0 → s ≡ written c at (stored_all (numbers (take i list))) → written s (at + 4 * i) (stored v) ≡ written c at (stored_all (numbers (take (i + 1) list)))
@@ -19,12 +21,6 @@ put-one-more c s at i v list d h l e inv =
     let k : at + length (stored_all ws) ≡ at + 4 * i = omega (arith, length-stored_all ws) in
     ap (λ (t : Contents). written t (at + 4 * i) (stored v)) inv ∙ written-more c at (at + 4 * i) (stored_all ws) (stored v) k (omega arith)
     ∙ ap (written c at) (sym (stored_all-push ws v) ∙ ap stored_all (ap (λ (w : ℕ). ws ++ w ∷ []) e ∙ sym (map_more (λ (a : Address). a.0) list i d l)))
-
-pub get-one-more : (c : Contents) (at i v : ℕ) (list : List Address) → i < length list → v ≡ word c (at + 4 * i) → take i list ≡ addresses_in c at i → take (i + 1) (set list i (record { 0 = v })) ≡ addresses_in c at (i + 1)
-get-one-more c at i v list l e inv =
-    let k : i + 1 ≡ suc i = omega arith in
-    take_more_set list i (record { 0 = v }) l ∙ ap₂ (λ (t : List Address) (w : ℕ). t ++ (record { 0 = w }) ∷ []) inv e
-    ∙ sym (ap (addresses_in c at) k ∙ ap (map (λ (w : ℕ). record { 0 = w })) (words-push c at i) ∙ map-append (λ (w : ℕ). record { 0 = w }) (words c at i) (word c (at + word_size * i) ∷ []))
 
 -- FIELDS, ONE AFTER ANOTHER
 pub next : (c s t : Contents) (xs ys : List ℕ) (n : ℕ) → s ≡ written c 0 xs → t ≡ written s n ys → length xs ≡ n → t ≡ written c 0 (xs ++ ys)
@@ -59,27 +55,17 @@ header_read c h m g e1 e2 e3 e4 e5 =
     let f : h ≡ fields_in c = λ i. record { name = record { bytes = e1 i }; length = record { 0 = e2 i }; date = e3 i; tables = e4 i; sectors = e5 i } in
     rw (eq-eqb (word c mark_at) file_mark m, g, f)
 
--- one more address that is as due
-pub due-step : (size n i : ℕ) (list : List Address) (d : Address) (b : Bool) → i < length list → b ≡ as_due size (ltb i n) (get_or list i d).0 → due_from size n i (drop i (numbers list)) ≡ (b && due_from size n (i + 1) (drop (i + 1) (numbers list)))
-due-step size n i list d b h e =
-    let k : suc i ≡ i + 1 = omega arith in
-    let l : i < length (numbers list) = omega (arith, length-map list (λ (a : Address). a.0)) in
-    at_drop_more (due_from size n i) (numbers list) i 0 l
-    ∙ ap₂ (λ (x : Bool) (j : ℕ). x && due_from size n j (drop (i + 1) (numbers list))) (ap (as_due size (ltb i n)) (get_or-map (λ (a : Address). a.0) list i d 0 h) ∙ sym e) k
-
-pub due-end : (size n i : ℕ) (list : List Address) → length list ≤ i → due_from size n i (drop i (numbers list)) ≡ true
-due-end size n i list h = at_drop_all (due_from size n i) (numbers list) i (omega (arith, length-map list (λ (a : Address). a.0)))
+-- addresses asked one after another, wherever their entries begin
+pub due-all : (size due from i j : ℕ) → from + i ≡ j → (list : List Address) → list_all (λ (p : ℕ × Address). as_due size (ltb p.0 due) p.1.0) (enumerate_from i list) ≡ due_from size (due + from) j (numbers list)
+due-all size due from i j e [] = refl
+due-all size due from i j e (a ∷ list) =
+    let t : ltb i due ≡ ltb j (due + from) = grind (arith, nat_tests) in
+    rw t (ap (λ (b : Bool). as_due size (ltb j (due + from)) a.0 && b) (due-all size due from (i + 1) (suc j) (omega arith) list))
 
 -- the links of a header, asked one after another
-module _ (own size : ℕ) (h : Header) (d : Address) (long : length h.sectors ≡ near_sectors) where
-  own-link : get_or (numbers h.sectors) 0 0 ≡ (get_or h.sectors 0 d).0
-  own-link = get_or-map (λ (a : Address). a.0) h.sectors 0 d 0 (omega arith)
-
-  pub not_own : ((get_or h.sectors 0 d).0 ≡ address own → ⊥) → links_due own size h ≡ false
-  not_own m = and_left (eqb (get_or (numbers h.sectors) 0 0) (address own)) _ (ne_eqb (get_or (numbers h.sectors) 0 0) (address own) (λ e. m (sym own-link ∙ e)))
-
-  pub own-and : (b e : Bool) → (get_or h.sectors 0 d).0 ≡ address own → b ≡ due_from size (last_sector h.length.0 + 1) 1 (drop 1 (numbers h.sectors)) → e ≡ due_from size (tables (last_sector h.length.0)) 0 (numbers h.tables) → links_due own size h ≡ (b && e)
-  own-and b e m p q = rw (eq-eqb (get_or (numbers h.sectors) 0 0) (address own) (own-link ∙ m), ← p, ← q)
-
-  pub own-not : false ≡ due_from size (last_sector h.length.0 + 1) 1 (drop 1 (numbers h.sectors)) → links_due own size h ≡ false
-  own-not p = and_right (eqb (get_or (numbers h.sectors) 0 0) (address own)) _ (and_left (due_from size (last_sector h.length.0 + 1) 1 (drop 1 (numbers h.sectors))) _ (sym p))
+pub links-asked : (own size a m : ℕ) (h : Header) (d : Address) (x y z : Bool) → length h.sectors ≡ near_sectors → x ≡ eqb (get_or h.sectors 0 d).0 (address own) → a ≡ last_sector h.length.0 → m ≡ tables a → y ≡ due_from size (a + 1) 1 (numbers (take 63 (drop 1 h.sectors))) → z ≡ due_from size (m + 0) 0 (numbers h.tables) → links_due own size h ≡ (x && (y && z))
+links-asked own size a m h d x y z l ex ea em ey ez =
+    let first : get_or (numbers h.sectors) 0 0 ≡ (get_or h.sectors 0 d).0 = get_or-map (λ (b : Address). b.0) h.sectors 0 d 0 (omega arith) in
+    let rest : take 63 (drop 1 h.sectors) ≡ drop 1 h.sectors = take_all 63 (drop 1 h.sectors) (omega (arith, l, length-drop 1 h.sectors)) in
+    let n : m + 0 ≡ m = omega arith in
+    rw (ex, ey, ez, n, em, ea, rest, first, drop-map (λ (b : Address). b.0) 1 h.sectors)

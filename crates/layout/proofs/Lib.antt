@@ -4,4 +4,5 @@ pub mod Heading
 pub mod Numbers
 pub mod PageForm
 pub mod Paging
+pub mod Reading
 pub mod Writing

@@ -1,8 +1,9 @@
 -- Stored numbers.
-use Rattle.std.proofs.Common.{◌≡◌, ℕ, ◌+◌, ◌-◌, ◌*◌, ◌/◌, ◌%◌, ◌^◌, ◌<◌, ◌≤◌, ◌⊎◌, List, [], ◌∷◌, ◌++◌, length, get_or, take, drop, sym, refl, ap, ◌∙◌, subst, ap₂, inl, inr, arith}
-use Rattle.std.proofs.lemmas.List.{get_or-append_right, get_or_append_left, get_or-take, get_or-drop, length-take-le, drop_more}
+use Rattle.std.proofs.Common.{◌≡◌, ℕ, ◌+◌, ◌-◌, ◌^◌, ◌<◌, ◌≤◌, ◌⊎◌, Bool, true, false, ltb, List, ◌++◌, length, get_or, take, drop, sym, refl, ap, ◌∙◌, subst, inl, inr, arith}
+use Rattle.std.proofs.lemmas.Bool.{ltb-true, ltb-false}
+use Rattle.std.proofs.lemmas.List.{get_or-append_right, get_or_append_left, get_or-take, get_or-drop, get_or_past, length-take-le, length-drop, take_at, drop_at, drop-drop, take-append-drop}
+use Rattle.std.proofs.lemmas.Nat.{from_le_bytes-to_le_bytes_4, le_bytes_4}
 use Rattle.std.proofs.ByRecursion.{All-get_or}
-use native.Mathlib.Nat.{div-div-eq-div-mul, div-add-mod}
 use Rattle.layout.specs.Words.{Contents, Bytes, word_size, word, stored, part, written, StoredNumbers}
 
 -- a number past n bytes
@@ -13,18 +14,7 @@ word-past p q n i e =
     rw (h, at 1, at 2, at 3)
 
 pub word-stored : (v : ℕ) (q : Contents) → v < 2 ^ 32 → word (stored v ++ q) 0 ≡ v
-word-stored v q h =
-    let d0 = div-add-mod v 256 in
-    let d1 = div-add-mod (v / 256) 256 in
-    let d2 = div-add-mod (v / 65536) 256 in
-    let a : v / 256 / 256 ≡ v / 65536 = div-div-eq-div-mul v 256 256 in
-    let b : v / 65536 / 256 ≡ v / 16777216 = div-div-eq-div-mul v 65536 256 in
-    let m : v / 16777216 % 256 ≡ v / 16777216 = omega arith in
-    join v (v / 256) (v / 65536) (v / 16777216) _ _ _ _ d0 (subst (λ (n : ℕ). 256 * n + v / 256 % 256 ≡ v / 256) a d1)
-    (subst (λ (n : ℕ). 256 * n + v / 65536 % 256 ≡ v / 65536) b d2) m
-  where
-    join : (v x y z a b d e : ℕ) → 256 * x + a ≡ v → 256 * y + b ≡ x → 256 * z + d ≡ y → e ≡ z → a + 256 * b + 65536 * d + 16777216 * e ≡ v
-    join v x y z a b d e p q r s = omega arith
+word-stored v q h = omega (arith, from_le_bytes-to_le_bytes_4 v h)
 
 pub word_at : (p q : Contents) (n v : ℕ) → length p ≡ n → v < 2 ^ 32 → word (p ++ (stored v ++ q)) n ≡ v
 word_at p q n v e h = subst (λ (j : ℕ). word (p ++ (stored v ++ q)) j ≡ v) (omega arith) (word-past p (stored v ++ q) n 0 e ∙ word-stored v q h)
@@ -41,47 +31,41 @@ others c i v k h (inr l) =
     ∙ get_or-append_right (stored v) rest 4 (k - i) 0 refl (omega arith)
     ∙ get_or-drop (i + word_size) c (k - i - 4) 0 ∙ ap (λ (j : ℕ). get_or c j 0) (omega arith)
 
--- four bytes from i on
-four : (c : Contents) (i : ℕ) → i + word_size ≤ length c → drop i c ≡ get_or c i 0 ∷ get_or c (i + 1) 0 ∷ get_or c (i + 2) 0 ∷ get_or c (i + 3) 0 ∷ drop (i + word_size) c
-four c i h =
-    let e2 : i + 1 + 1 ≡ i + 2 = omega arith in
-    let e3 : i + 2 + 1 ≡ i + 3 = omega arith in
-    let e4 : i + 3 + 1 ≡ i + 4 = omega arith in
-    drop_more c i 0 (omega arith)
-    ∙ ap (λ (t : List ℕ). get_or c i 0 ∷ t) (drop_more c (i + 1) 0 (omega arith)
-    ∙ ap (λ (t : List ℕ). get_or c (i + 1) 0 ∷ t) (ap (λ (j : ℕ). drop j c) e2 ∙ drop_more c (i + 2) 0 (omega arith)
-    ∙ ap (λ (t : List ℕ). get_or c (i + 2) 0 ∷ t) (ap (λ (j : ℕ). drop j c) e3 ∙ drop_more c (i + 3) 0 (omega arith)
-    ∙ ap (λ (j : ℕ). get_or c (i + 3) 0 ∷ drop j c) e4)))
+-- PARTS
+pub part_at : (p q r : List ℕ) (n m : ℕ) → length p ≡ n → length q ≡ m → part (p ++ (q ++ r)) n m ≡ q
+part_at p q r n m e f = ap (take m) (drop_at p (q ++ r) n e) ∙ take_at q r m f
 
-digits : (a b d e : ℕ) → a < 256 → b < 256 → d < 256 → e < 256 → stored (a + 256 * b + 65536 * d + 16777216 * e) ≡ a ∷ b ∷ d ∷ e ∷ []
-digits a b d e ha hb hd he =
-    let w = a + 256 * b + 65536 * d + 16777216 * e in
-    let q0 : w % 256 ≡ a = omega arith in
-    let q1 : w / 256 ≡ b + 256 * d + 65536 * e = omega arith in
-    let q2 : w / 65536 ≡ d + 256 * e = omega arith in
-    let q3 : w / 16777216 ≡ e = omega arith in
-    let r1 : (b + 256 * d + 65536 * e) % 256 ≡ b = omega arith in
-    let r2 : (d + 256 * e) % 256 ≡ d = omega arith in
-    let r3 : e % 256 ≡ e = omega arith in
-    let s1 = ap (λ (n : ℕ). n % 256) q1 ∙ r1 in
-    let s2 = ap (λ (n : ℕ). n % 256) q2 ∙ r2 in
-    let s3 = ap (λ (n : ℕ). n % 256) q3 ∙ r3 in
-    ap₂ ◌∷◌ q0 (ap₂ ◌∷◌ s1 (ap₂ ◌∷◌ s2 (ap₂ ◌∷◌ s3 refl)))
+pub part-whole : (c : Contents) (i n : ℕ) → drop i c ≡ part c i n ++ drop (i + n) c
+part-whole c i n = sym (take-append-drop n (drop i c)) ∙ ap (λ (t : List ℕ). part c i n ++ t) (drop-drop n i c)
 
--- a number's bytes, and what follows them
-pub word-whole : (c : Contents) (i : ℕ) → Bytes c → i + word_size ≤ length c → drop i c ≡ stored (word c i) ++ drop (i + word_size) c
-word-whole c i b h =
-    let f : (k : ℕ) → k < length c → get_or c k 0 < 256 = λ k l. All-get_or (λ x. x < 256) c k 0 l b in
-    let d = digits _ _ _ _ (f i (omega arith)) (f (i + 1) (omega arith)) (f (i + 2) (omega arith)) (f (i + 3) (omega arith)) in
-    four c i h ∙ ap (λ (t : List ℕ). t ++ drop (i + word_size) c) (sym d)
+pub length_part : (c : Contents) (i n : ℕ) → i + n ≤ length c → length (part c i n) ≡ n
+length_part c i n h = length-take-le n (drop i c) (omega (arith, length-drop i c))
 
+pub get_or-part : (c : Contents) (i n k : ℕ) → k < n → get_or (part c i n) k 0 ≡ get_or c (i + k) 0
+get_or-part c i n k h = get_or-take n (drop i c) k 0 h ∙ get_or-drop i c k 0
+
+-- A NUMBER'S BYTES
 pub word_fits : (c : Contents) (i : ℕ) → Bytes c → i + word_size ≤ length c → word c i < 2 ^ 32
 word_fits c i b h =
     let f : (k : ℕ) → k < length c → get_or c k 0 < 256 = λ k l. All-get_or (λ x. x < 256) c k 0 l b in
     omega (arith, f i (omega arith), f (i + 1) (omega arith), f (i + 2) (omega arith), f (i + 3) (omega arith))
 
 pub whole : (c : Contents) (i : ℕ) → Bytes c → i + word_size ≤ length c → stored (word c i) ≡ part c i word_size
-whole c i b h = sym (ap (λ (t : List ℕ). take 4 t) (word-whole c i b h))
+whole c i b h =
+    let at : (k : ℕ) → k < 4 → get_or (part c i word_size) k 0 ≡ get_or c (i + k) 0 = λ k l. get_or-part c i word_size k l in
+    let zero : i + 0 ≡ i = omega arith in
+    le_bytes_4 (part c i word_size) (word c i) (length_part c i word_size h) (λ k. small k (ltb k 4) refl)
+    (omega (arith, at 0 (omega arith), at 1 (omega arith), at 2 (omega arith), at 3 (omega arith), ap (λ (j : ℕ). get_or c j 0) zero))
+  where
+    small : (k : ℕ) (t : Bool) → ltb k 4 ≡ t → get_or (part c i word_size) k 0 < 256
+    small k true e =
+        let l = ltb-true k 4 e in
+        subst (λ (x : ℕ). x < 256) (sym (get_or-part c i word_size k l)) (All-get_or (λ x. x < 256) c (i + k) 0 (omega arith) b)
+    small k false e = let l = ltb-false k 4 e in subst (λ (x : ℕ). x < 256) (sym (get_or_past (part c i word_size) k 0 (omega (arith, length_part c i word_size h)))) (omega arith)
+
+-- a number's bytes, and what follows them
+pub word-whole : (c : Contents) (i : ℕ) → Bytes c → i + word_size ≤ length c → drop i c ≡ stored (word c i) ++ drop (i + word_size) c
+word-whole c i b h = part-whole c i word_size ∙ ap (λ (t : List ℕ). t ++ drop (i + word_size) c) (sym (whole c i b h))
 
 pub stored-numbers : StoredNumbers
 stored-numbers = record { back = back; others = others; whole = whole }

@@ -12,12 +12,13 @@ use Rattle.layout.specs.declared.entry.PageFault.TheVariants.{Mark, BadName, Bad
 use Rattle.layout.specs.Words.{Contents, Bytes, sector_size, word_size, blank, word, stored, part, written}
 use Rattle.numbers.specs.Sectors.{address_step, address, leads, sector_at, as_due}
 use Rattle.numbers.specs.Names.{name_size, every, name_in, is_name_field}
-use Rattle.layout.specs.Entries.{page_mark, page_mark_at, count_at, first_at, zeros_at, entries_at, entry_size, file_at, below_at, most_entries, head_in, least_of, count_fits, count_fault, entry_at, stored_in, entry_of, check_entry, link_address, entry_bytes, all_entry_bytes}
+use Rattle.layout.specs.Entries.{page_mark, page_mark_at, count_at, first_at, zeros_at, entries_at, entry_size, file_at, below_at, most_entries, head_in, least_of, count_fits, count_fault, entry_at, stored_in, entry_of, check_entry, link_address, stored_form, entry_bytes, all_entry_bytes}
 use Rattle.layout.specs.Pages.{PageData, page_front, page_bytes, prepend, rows_in, with_rows, with_head, page_in, no_page, LinkFits, EntryFits, PageFits, DirectoryPages}
-use Rattle.layout.proofs.Numbers.{word-past, word-stored, word-whole}
+use Rattle.layout.proofs.Numbers.{word-stored, word-whole}
 use Rattle.numbers.proofs.Linking.{leads-says, leads-from, led-to}
 use Rattle.numbers.proofs.Naming.{only, sized}
-use Rattle.layout.proofs.Writing.{part_at, part-whole, length_part, length-written}
+use Rattle.layout.proofs.Reading.{entry-between}
+use Rattle.layout.proofs.Writing.{part-whole, length_part, length-written}
 
 -- LINKS
 link-due : (size : ℕ) (leaf : Bool) (l : Option Sector) → LinkFits size leaf l → as_due size (not leaf) (link_address l) ≡ true
@@ -72,29 +73,17 @@ entries-long size leaf (e ∷ es) f =
 module _ (size : ℕ) (leaf : Bool) (small : size < 2 ^ 16) where
   entry-at : (pre rest : Contents) (e : Entry) (i : ℕ) → length pre ≡ entry_at i → EntryFits size leaf e → check_entry size leaf (stored_in (pre ++ (entry_bytes e ++ rest)) i) ≡ Ok e
   entry-at pre rest e i l f =
-      let n = e.name.bytes in
       let a = address e.file.0 in
       let b = link_address e.below in
       let c = pre ++ (entry_bytes e ++ rest) in
-      let ln = name-long n f.name in
-      let flat : c ≡ pre ++ (n ++ (stored a ++ (stored b ++ rest))) = ap (λ (t : List ℕ). pre ++ t) (append_assoc n (stored a ++ stored b) rest) in
-      let halves : c ≡ (pre ++ n) ++ (stored a ++ (stored b ++ rest)) = flat ∙ sym (append_assoc pre n (stored a ++ (stored b ++ rest))) in
-      let lf : length (pre ++ n) ≡ entry_at i + file_at = length-append pre n ∙ omega arith in
-      let k0 : entry_at i + file_at ≡ entry_at i + file_at + 0 = omega arith in
-      let k4 : entry_at i + below_at ≡ entry_at i + file_at + 4 = omega arith in
-      let en : part c (entry_at i) name_size ≡ n = ap (λ (t : Contents). part t (entry_at i) name_size) flat ∙ part_at pre n (stored a ++ (stored b ++ rest)) (entry_at i) name_size l ln in
-      let ea : word c (entry_at i + file_at) ≡ a =
-      ap₂ word halves k0 ∙ word-past (pre ++ n) (stored a ++ (stored b ++ rest)) (entry_at i + file_at) 0 lf ∙ word-stored a (stored b ++ rest) (omega (arith, f.file.1)) in
-      let eb : word c (entry_at i + below_at) ≡ b =
-      ap₂ word halves k4 ∙ word-past (pre ++ n) (stored a ++ (stored b ++ rest)) (entry_at i + file_at) 4 lf ∙ word-stored b rest (link-small size leaf e.below small f.below) in
-      let s : stored_in c i ≡ record { name = e.name; file = record { 0 = a }; below = record { 0 = b } } =
-      λ j. record { name = record { bytes = en j }; file = record { 0 = ea j }; below = record { 0 = eb j } } in
+      let s : stored_in c i ≡ stored_form e =
+      entry-between pre rest (stored_form e) (entry_at i) l (name-long e.name.bytes f.name) (omega (arith, f.file.1)) (link-small size leaf e.below small f.below) in
       let q : a / address_step ≡ e.file.0 = omega arith in
-      let o : entry_of size (record { name = e.name; file = record { 0 = a }; below = record { 0 = b } }) ≡ e =
+      let o : entry_of size (stored_form e) ≡ e =
       λ j. record { name = e.name; file = record { 0 = q j }; below = link-back size leaf e.below f.below j } in
       let t = and_from (leads size a) (as_due size (not leaf) b) (leads-from size e.file.0 f.file.0 f.file.1) (link-due size leaf e.below f.below) in
       ap (check_entry size leaf) s
-      ∙ ap₂ (λ (x y : Bool). cond x (cond y (Ok (entry_of size (record { name = e.name; file = record { 0 = a }; below = record { 0 = b } }))) (Err BadLink)) (Err BadName)) f.name t
+      ∙ ap₂ (λ (x y : Bool). cond x (cond y (Ok (entry_of size (stored_form e))) (Err BadLink)) (Err BadName)) f.name t
       ∙ ap (λ (x : Entry). Ok x) o
 
   rows_at : (pre rest : Contents) (es : List Entry) (i : ℕ) → length pre ≡ entry_at i → AllByRecursion (EntryFits size leaf) es → rows_in size leaf (pre ++ (all_entry_bytes es ++ rest)) i (length es) ≡ Ok es

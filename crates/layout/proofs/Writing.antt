@@ -1,9 +1,10 @@
 -- Fields written and read one after another.
-use Rattle.std.proofs.Common.{◌≡◌, ℕ, zero, suc, ◌+◌, ◌*◌, ◌^◌, ◌<◌, ◌≤◌, List, [], ◌∷◌, ◌++◌, length, take, drop, sym, refl, ap, ◌∙◌, ap₂, append_assoc, append-nil, arith}
+use Rattle.std.proofs.Common.{◌≡◌, ℕ, zero, suc, ◌+◌, ◌*◌, ◌^◌, ◌<◌, ◌≤◌, List, [], ◌∷◌, ◌++◌, length, take, drop, sym, refl, ap, ◌∙◌, ap₂, append_assoc, arith}
 use Rattle.std.specs.List.{AllByRecursion}
-use Rattle.std.proofs.lemmas.List.{length-append, length-take-le, length-drop, take_at, drop_at, drop_all, drop-drop, take-append-drop}
-use Rattle.layout.specs.Words.{Contents, Bytes, word_size, word, words, stored, stored_all, part, written}
+use Rattle.std.proofs.lemmas.List.{length-append, length-take-le, length-drop, take_at, drop_at, drop-drop, take-append-drop}
+use Rattle.layout.specs.Words.{Contents, Bytes, word_size, word, words, stored, stored_all, written}
 use Rattle.layout.proofs.Numbers.{word_at, word-whole, word_fits}
+pub use Rattle.layout.proofs.Numbers.{part_at, part-whole, length_part}
 
 -- WRITING
 pub written_none : (c : Contents) (i : ℕ) → written c i [] ≡ c
@@ -16,10 +17,6 @@ length-written c i bs h =
     let d = length-take-le i c (omega arith) in
     let e = length-drop (i + length bs) c in
     omega (arith, a, b, d, e)
-
--- a sector that is written whole
-pub written_all : (c bs : List ℕ) → length bs ≡ length c → written c 0 bs ≡ bs
-written_all c bs e = ap (λ (t : List ℕ). bs ++ t) (drop_all (0 + length bs) c (omega arith)) ∙ append-nil bs
 
 -- what is written right behind is written together
 pub written-more : (c : Contents) (i n : ℕ) (xs ys : List ℕ) → i + length xs ≡ n → i ≤ length c → written (written c i xs) n ys ≡ written c i (xs ++ ys)
@@ -52,12 +49,6 @@ pub stored_all-push : (ws : List ℕ) (w : ℕ) → stored_all (ws ++ w ∷ []) 
 stored_all-push [] w = refl
 stored_all-push (v ∷ ws) w = ap (λ (t : List ℕ). stored v ++ t) (stored_all-push ws w)
 
-pub words-push : (c : Contents) (i n : ℕ) → words c i (suc n) ≡ words c i n ++ word c (i + word_size * n) ∷ []
-words-push c i zero = let e : i ≡ i + word_size * 0 = omega arith in ap (λ (j : ℕ). word c j ∷ []) e
-words-push c i (suc n) =
-    let e : i + word_size + word_size * n ≡ i + word_size * suc n = omega arith in
-    ap (λ (t : List ℕ). word c i ∷ t) (words-push c (i + word_size) n ∙ ap (λ (j : ℕ). words c (i + word_size) n ++ word c j ∷ []) e)
-
 pub length-words : (c : Contents) (i n : ℕ) → length (words c i n) ≡ n
 length-words c i zero = refl
 length-words c i (suc n) = ap suc (length-words c (i + word_size) n)
@@ -81,13 +72,3 @@ words-whole c i (suc n) b h =
 pub words-fit : (c : Contents) (i n : ℕ) → Bytes c → i + word_size * n ≤ length c → AllByRecursion (λ w. w < 2 ^ 32) (words c i n)
 words-fit c i zero b h = tt
 words-fit c i (suc n) b h = (word_fits c i b (omega arith), words-fit c (i + word_size) n b (omega arith))
-
--- PARTS
-pub part_at : (p q r : List ℕ) (n m : ℕ) → length p ≡ n → length q ≡ m → part (p ++ (q ++ r)) n m ≡ q
-part_at p q r n m e f = ap (take m) (drop_at p (q ++ r) n e) ∙ take_at q r m f
-
-pub part-whole : (c : Contents) (i n : ℕ) → drop i c ≡ part c i n ++ drop (i + n) c
-part-whole c i n = sym (take-append-drop n (drop i c)) ∙ ap (λ (t : List ℕ). part c i n ++ t) (drop-drop n i c)
-
-pub length_part : (c : Contents) (i n : ℕ) → i + n ≤ length c → length (part c i n) ≡ n
-length_part c i n h = length-take-le n (drop i c) (omega (arith, length-drop i c))

@@ -1,12 +1,12 @@
 -- A file's first sector, and its extension tables.
-use Rattle.std.specs.Prelude.{◌≡◌, ℕ, ◌+◌, ◌^◌, ◌<◌, ◌≤◌, Bool, true, cond, ◌&&◌, List, ◌++◌, map, length, drop, replicate, Ok, Err, Result, ◌==◌, slice_index, slice_set}
+use Rattle.std.specs.Prelude.{◌≡◌, ℕ, ◌+◌, ◌^◌, ◌<◌, ◌≤◌, Bool, true, cond, ◌&&◌, List, ◌++◌, length, drop, replicate, Ok, Err, Result, ◌==◌, slice_index, slice_set}
 use Rattle.std.specs.List.{AllByRecursion}
-use Rattle.numbers.specs.declared.sector.Address.{Address}
 use Rattle.numbers.specs.declared.name.Name.{Name}
 use Rattle.layout.specs.declared.header.Header.{Header}
 use Rattle.layout.specs.declared.header.HeaderFault.{HeaderFault}
 use Rattle.layout.specs.declared.header.HeaderFault.TheVariants.{Mark, End, Link}
-use Rattle.layout.specs.Words.{Contents, Bytes, sector_size, word, words, stored, stored_all, part, written}
+use Rattle.layout.specs.Words.{Contents, Bytes, sector_size, word, stored, stored_all, part, written}
+pub use Rattle.layout.specs.Words.{numbers, addresses_in}
 use Rattle.numbers.specs.Sectors.{address, due_from}
 use Rattle.numbers.specs.Names.{name_size}
 use Rattle.numbers.specs.Lengths.{near_sectors, most_tables, longest, last_sector, last_bytes, length_of, good_end, tables}
@@ -35,13 +35,6 @@ tables_at = 48
 
 abbrev pub near_at : ℕ
 near_at = 96
-
--- addresses as stored numbers, and back
-abbrev pub numbers : List Address → List ℕ
-numbers list = map (λ (a : Address). a.0) list
-
-abbrev pub addresses_in : Contents → ℕ → ℕ → List Address
-addresses_in c i n = map (λ (w : ℕ). record { 0 = w }) (words c i n)
 
 -- the bytes of a first sector before the data
 abbrev pub header_bytes : Header → List ℕ

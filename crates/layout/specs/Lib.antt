@@ -2,4 +2,5 @@ pub mod Entries
 pub mod Headers
 pub mod Pages
 pub mod Tables
+pub mod Texts
 pub mod Words

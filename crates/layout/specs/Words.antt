@@ -1,6 +1,7 @@
 -- A sector as its bytes, and the numbers that are stored in it.
-use Rattle.std.specs.Prelude.{◌≡◌, ℕ, zero, suc, ◌+◌, ◌*◌, ◌/◌, ◌%◌, ◌^◌, ◌<◌, ◌≤◌, ◌⊎◌, List, [], ◌∷◌, ◌++◌, length, take, drop, replicate, slice_index}
+use Rattle.std.specs.Prelude.{◌≡◌, ℕ, zero, suc, ◌+◌, ◌*◌, ◌/◌, ◌%◌, ◌^◌, ◌<◌, ◌≤◌, ◌⊎◌, List, [], ◌∷◌, ◌++◌, map, length, take, drop, replicate, slice_index}
 use Rattle.std.specs.List.{AllByRecursion}
+use Rattle.numbers.specs.declared.sector.Address.{Address}
 pub use Rattle.numbers.specs.Lengths.{sector_size}
 
 abbrev pub Contents : Type 0
@@ -30,6 +31,13 @@ words c i (suc n) = word c i ∷ words c (i + word_size) n
 abbrev pub stored_all : List ℕ → List ℕ
 stored_all [] = []
 stored_all (w ∷ ws) = stored w ++ stored_all ws
+
+-- addresses as stored numbers, and back
+abbrev pub numbers : List Address → List ℕ
+numbers list = map (λ (a : Address). a.0) list
+
+abbrev pub addresses_in : Contents → ℕ → ℕ → List Address
+addresses_in c i n = map (λ (w : ℕ). record { 0 = w }) (words c i n)
 
 -- n bytes from byte i on
 abbrev pub part : Contents → ℕ → ℕ → List ℕ

@@ -6,12 +6,12 @@ ghost use Rattle.layout.specs.Pages.{data_of, page_bytes, rows_in, page_in, show
 
 use crate::entry::{
     COUNT_AT, ENTRIES_AT, ENTRY_SIZE, Entry, FIRST_AT, MARK_AT, MOST_ENTRIES, PAGE_MARK, PageFault,
-    PageHead, PageKind, get_entry, link_address, put_entry,
+    PageHead, PageKind, StoredEntry,
 };
 use crate::page::Page;
-use crate::word::{SectorBytes, put};
+use crate::word::{SectorBytes, Stored};
 use numbers::name::Name;
-use numbers::sector::Sector;
+use numbers::sector::{Address, Sector};
 
 // The page has 25 entries and takes no more.
 #[derive(Clone, Copy)]
@@ -74,7 +74,7 @@ impl Page {
         ensures { sector.new ≡ written sector.old entries_at (all_entry_bytes (data_of self.now).rows) }
     {
         for i in 0..self.count {
-            put_entry(sector, ENTRIES_AT + ENTRY_SIZE * i, &self.entries[i]);
+            StoredEntry::from(self.entries[i]).store(sector, ENTRIES_AT + ENTRY_SIZE * i);
         }
     }
 
@@ -87,9 +87,9 @@ impl Page {
             return None;
         }
         let mut sector = [0u8; 1024];
-        put(&mut sector, MARK_AT, PAGE_MARK);
-        put(&mut sector, COUNT_AT, self.count as u32);
-        put(&mut sector, FIRST_AT, link_address(self.first).0);
+        PAGE_MARK.store(&mut sector, MARK_AT);
+        (self.count as u32).store(&mut sector, COUNT_AT);
+        Address::from(self.first).store(&mut sector, FIRST_AT);
         self.put_entries(&mut sector);
         Some(sector)
     }
@@ -108,7 +108,7 @@ impl Page {
             (λ f. rows_in size leaf sector.now 0 count ≡ Err f) }
     {
         for i in 0..count as usize {
-            let entry = get_entry(sector, i).check(leaf, size)?;
+            let entry = StoredEntry::load(sector, ENTRIES_AT + ENTRY_SIZE * i).check(leaf, size)?;
             self.add(entry);
         }
         Ok(())

@@ -1,13 +1,15 @@
 // A directory page by its parts: what stands before the entries, and each entry.
-ghost use Rattle.std.specs.Prelude.{◌≡◌, ℕ, ◌+◌, ◌*◌, ◌<◌, ◌≤◌, true, false, length, MatchOption, MatchResult, nat_eq};
-ghost use Rattle.layout.specs.Entries.{head_in, is_leaf, count_fits, count_fault, most_entries, entry_size, stored_in, check_entry, link_address, entry_bytes};
+ghost use Rattle.std.specs.Prelude.{◌≡◌, ℕ, ◌+◌, ◌*◌, ◌<◌, ◌≤◌, true, false, length, MatchOption, MatchResult, Some, nat_eq};
 ghost use Rattle.numbers.specs.Names.{every};
-ghost use Rattle.layout.specs.Words.{sector_size, written};
+ghost use Rattle.layout.specs.Words.{Contents};
+ghost use Rattle.layout.specs.Entries.{head_in, is_leaf, count_fits, count_fault, most_entries, entry_size, stored_form, stored_entry_bytes, stored_at, stored_in, check_entry};
+ghost use Rattle.layout.specs.Texts.{page_fault_text};
 
-use crate::header::{get_name, put_name};
-use crate::word::{SectorBytes, get, put};
-use numbers::name::Name;
+use crate::word::{SectorBytes, Stored, WORD_SIZE};
+use numbers::name::{NAME_SIZE, Name};
 use numbers::sector::{Address, Sector};
+use std::error::Error;
+use std::fmt;
 
 // The mark of a directory page.
 pub(crate) const PAGE_MARK: u32 = 0x9B1EA38D;
@@ -24,19 +26,19 @@ const ZEROS_AT: usize = 12;
 pub(crate) const ENTRIES_AT: usize = 64;
 
 // The most entries that a page stores, and the fewest of one that is not the root.
-pub(crate) const MOST_ENTRIES: usize = 24;
+pub const MOST_ENTRIES: usize = 24;
 
-const LEAST_ENTRIES: u32 = 12;
+pub const LEAST_ENTRIES: usize = 12;
 
 // An entry's bytes, and where its addresses stand behind the name.
 pub(crate) const ENTRY_SIZE: usize = 40;
 
-const FILE_AT: usize = 32;
+const FILE_AT: usize = NAME_SIZE;
 
-const BELOW_AT: usize = 36;
+const BELOW_AT: usize = FILE_AT + WORD_SIZE;
 
 // An entry of a directory page: a name, the first sector of its file, and the page of the names above it and below the next entry; a leaf has none.
-#[derive(Clone, Copy)]
+#[derive(Clone, Copy, Debug, Default)]
 pub struct Entry {
     pub name: Name,
     pub file: Sector,
@@ -44,7 +46,7 @@ pub struct Entry {
 }
 
 // An entry as it is stored, not asked yet.
-#[derive(Clone, Copy)]
+#[derive(Clone, Copy, Debug, Default)]
 pub struct StoredEntry {
     pub name: Name,
     pub file: Address,
@@ -52,21 +54,21 @@ pub struct StoredEntry {
 }
 
 // The fields of a directory page before its entries: their number, and the address of the page of the names below them all.
-#[derive(Clone, Copy)]
+#[derive(Clone, Copy, Debug)]
 pub struct PageHead {
     pub count: u32,
     pub first: Address,
 }
 
 // Where a page stands in the directory: only the root may be less than half full.
-#[derive(Clone, Copy)]
+#[derive(Clone, Copy, Debug, PartialEq, Eq)]
 pub enum PageKind {
     Root,
     Other,
 }
 
 // Why a sector is not a page of the directory.
-#[derive(Clone, Copy)]
+#[derive(Clone, Copy, Debug, PartialEq, Eq)]
 pub enum PageFault {
     // the mark is not that of a page, or bytes 12 to 63 are not zero
     Mark,
@@ -82,16 +84,28 @@ pub enum PageFault {
     BadLink,
 }
 
+impl fmt::Display for PageFault {
+    ghost output = { λ f. Some (page_fault_text f) };
+
+    fn fmt<W: fmt::Write>(&self, f: &mut fmt::Formatter<W>) -> fmt::Result {
+        f.write_str(match self {
+            PageFault::Mark => "not the mark and the zeros of a directory page",
+            PageFault::RootCount => "a root holds 0 to 24 entries",
+            PageFault::ParentCount => "a root with children holds 1 to 24 entries",
+            PageFault::OtherCount => "a page that is not the root holds 12 to 24 entries",
+            PageFault::BadName => "an entry's name is not a good one",
+            PageFault::BadLink => "an address is not as due",
+        })
+    }
+}
+
+impl Error for PageFault {}
+
 // Is every byte 0?
 fn is_zero(bytes: &[u8]) -> bool
     ensures { result ≡ every (λ b. nat_eq b 0) bytes.now }
 {
-    for i in 0..bytes.len() {
-        if bytes[i] != 0 {
-            return false;
-        }
-    }
-    true
+    bytes.iter().all(|b| *b == 0)
 }
 
 impl PageHead {
@@ -99,15 +113,13 @@ impl PageHead {
     pub fn read(sector: &SectorBytes) -> Result<PageHead, PageFault>
         ensures { result ≡ head_in sector.now }
     {
-        if get(sector, MARK_AT) != PAGE_MARK {
+        if u32::load(sector, MARK_AT) != PAGE_MARK || !is_zero(&sector[ZEROS_AT..ENTRIES_AT]) {
             return Err(PageFault::Mark);
         }
-        if !is_zero(&sector[ZEROS_AT..ENTRIES_AT]) {
-            return Err(PageFault::Mark);
-        }
-        let count = get(sector, COUNT_AT);
-        let first = Address(get(sector, FIRST_AT));
-        Ok(PageHead { count, first })
+        Ok(PageHead {
+            count: u32::load(sector, COUNT_AT),
+            first: Address::load(sector, FIRST_AT),
+        })
     }
 
     // Is the page a leaf?
@@ -129,43 +141,46 @@ impl PageHead {
             PageKind::Root => (1, PageFault::ParentCount),
             PageKind::Other => (LEAST_ENTRIES, PageFault::OtherCount),
         };
-        if self.count < least || self.count > MOST_ENTRIES as u32 {
+        let count = self.count as usize;
+        if count < least || count > MOST_ENTRIES {
             return Err(fault);
         }
         Ok(())
     }
 }
 
-// Reads entry `i`.
-pub(crate) fn get_entry(sector: &SectorBytes, i: usize) -> StoredEntry
-    requires { i < most_entries }
-    ensures { result ≡ stored_in sector.now i }
-{
-    let at = ENTRIES_AT + ENTRY_SIZE * i;
-    let name = get_name(sector, at);
-    let file = Address(get(sector, at + FILE_AT));
-    let below = Address(get(sector, at + BELOW_AT));
-    StoredEntry { name, file, below }
+// The entry as it is stored.
+impl From<Entry> for StoredEntry {
+    ghost from_gives = { λ e s. s ≡ stored_form e };
+
+    fn from(entry: Entry) -> StoredEntry {
+        StoredEntry {
+            name: entry.name,
+            file: Address::from(entry.file),
+            below: Address::from(entry.below),
+        }
+    }
 }
 
-// Writes an entry from byte `at` on.
-pub(crate) fn put_entry(sector: &mut SectorBytes, at: usize, entry: &Entry)
-    requires { at + entry_size ≤ sector_size }
-    ensures after { sector.new ≡ written sector.old at (entry_bytes entry.now) }
-    ensures long { length (entry_bytes entry.now) ≡ entry_size }
-{
-    put_name(sector, at, &entry.name);
-    put(sector, at + FILE_AT, entry.file.address().0);
-    put(sector, at + BELOW_AT, link_address(entry.below).0);
-}
+impl Stored for StoredEntry {
+    ghost size = { entry_size };
 
-// The address that stands for a sector or for none.
-pub(crate) fn link_address(link: Option<Sector>) -> Address
-    ensures { result.0 ≡ link_address link }
-{
-    match link {
-        Some(sector) => sector.address(),
-        None => Address(0),
+    ghost bytes = { stored_entry_bytes };
+
+    ghost standing = { stored_at };
+
+    fn store(&self, sector: &mut SectorBytes, at: usize) {
+        self.name.store(sector, at);
+        self.file.store(sector, at + FILE_AT);
+        self.below.store(sector, at + BELOW_AT);
+    }
+
+    fn load(sector: &SectorBytes, at: usize) -> StoredEntry {
+        StoredEntry {
+            name: Name::load(sector, at),
+            file: Address::load(sector, at + FILE_AT),
+            below: Address::load(sector, at + BELOW_AT),
+        }
     }
 }
 
@@ -174,23 +189,15 @@ impl StoredEntry {
     pub fn read(sector: &SectorBytes, i: usize) -> Option<StoredEntry>
         ensures { MatchOption result (most_entries ≤ i) (λ e. (i < most_entries) × (e ≡ stored_in sector.now i)) }
     {
-        if i < MOST_ENTRIES {
-            Some(get_entry(sector, i))
-        } else {
-            None
-        }
+        (i < MOST_ENTRIES).then(|| StoredEntry::load(sector, ENTRIES_AT + ENTRY_SIZE * i))
     }
 
     // The entry, asked for its name, then for its addresses.
     pub fn check(&self, leaf: bool, size: u16) -> Result<Entry, PageFault>
         ensures { result ≡ check_entry size leaf self.now }
     {
-        let Some(name) = Name::from_field(self.name.bytes) else {
-            return Err(PageFault::BadName);
-        };
-        let Some(file) = self.file.sector(size) else {
-            return Err(PageFault::BadLink);
-        };
+        let name = Name::from_field(self.name.bytes).ok_or(PageFault::BadName)?;
+        let file = self.file.sector(size).ok_or(PageFault::BadLink)?;
         if !self.below.is_as_due(!leaf, size) {
             return Err(PageFault::BadLink);
         }

@@ -1,15 +1,17 @@
 // A file's first sector.
-ghost use Rattle.std.specs.Prelude.{◌≡◌, ℕ, ◌+◌, ◌*◌, ◌<◌, ◌≤◌, true, false, length, drop, MatchOption, slice_index};
+ghost use Rattle.std.specs.Prelude.{◌≡◌, ℕ, ◌+◌, ◌<◌, ◌≤◌, true, false, MatchOption, Some, slice_index};
 ghost use Rattle.numbers.specs.Lengths.{near_sectors, most_tables};
-ghost use Rattle.numbers.specs.Names.{name_size};
-ghost use Rattle.layout.specs.Words.{sector_size, word_size, stored_all, part, written};
-ghost use Rattle.layout.specs.Headers.{numbers, addresses_in, empty_header, header_bytes, read_header, links_due, header_in};
 ghost use Rattle.numbers.specs.Sectors.{due_from};
+ghost use Rattle.layout.specs.Words.{written, numbers};
+ghost use Rattle.layout.specs.Headers.{empty_header, header_bytes, read_header, links_due, header_in};
+ghost use Rattle.layout.specs.Texts.{header_fault_text};
 
-use crate::word::{SectorBytes, get, put};
-use numbers::length::{Length, tables as tables_of};
+use crate::word::{SectorBytes, Stored};
+use numbers::length::{Length, NEAR_SECTORS, tables as tables_of};
 use numbers::name::Name;
 use numbers::sector::{Address, Sector};
+use std::error::Error;
+use std::fmt;
 
 // The mark of a file's first sector.
 const FILE_MARK: u32 = 0x9BA71D86;
@@ -29,19 +31,24 @@ const TABLES_AT: usize = 48;
 
 const SECTORS_AT: usize = 96;
 
+// The addresses there of extension tables, and of file sectors.
+pub const MOST_TABLES: usize = 12;
+
+pub const NEAR_ADDRESSES: usize = NEAR_SECTORS as usize;
+
 // The part of a file's first sector that stands before the data.
-#[derive(Clone, Copy)]
+#[derive(Clone, Copy, Debug, Default)]
 pub struct Header {
     pub name: Name,
     pub length: Length,
     pub date: u32,
     // The addresses of the extension tables, and of file sectors 0 to 63; past the end they are 0.
-    pub tables: [Address; 12],
-    pub sectors: [Address; 64],
+    pub tables: [Address; MOST_TABLES],
+    pub sectors: [Address; NEAR_ADDRESSES],
 }
 
 // Why a sector is not the first one of a file.
-#[derive(Clone, Copy)]
+#[derive(Clone, Copy, Debug, PartialEq, Eq)]
 pub enum HeaderFault {
     // the mark is not that of a first sector
     Mark,
@@ -51,70 +58,41 @@ pub enum HeaderFault {
     Link,
 }
 
-// Writes a name's field from byte `at` on.
-pub(crate) fn put_name(sector: &mut SectorBytes, at: usize, name: &Name)
-    requires { at + name_size ≤ sector_size }
-    ensures after { sector.new ≡ written sector.old at name.now.bytes }
-    ensures long { length name.now.bytes ≡ name_size }
+// Do the first `due` addresses lead to sectors, and are the others 0?
+fn are_as_due(list: &[Address], due: u32, size: u16) -> bool
+    ensures { (from : ℕ) → result ≡ due_from size (due + from) from (numbers list.now) }
 {
-    sector[at..at + 32].copy_from_slice(&name.bytes);
+    list.iter()
+        .enumerate()
+        .all(|(i, address)| address.is_as_due(i < due as usize, size))
 }
 
-// Writes addresses from byte `at` on.
-pub(crate) fn put_addresses(sector: &mut SectorBytes, at: usize, list: &[Address])
-    requires { at + word_size * length list.now ≤ sector_size }
-    ensures { sector.new ≡ written sector.old at (stored_all (numbers list.now)) }
-{
-    for i in 0..list.len() {
-        put(sector, at + 4 * i, list[i].0);
+impl fmt::Display for HeaderFault {
+    ghost output = { λ f. Some (header_fault_text f) };
+
+    fn fmt<W: fmt::Write>(&self, f: &mut fmt::Formatter<W>) -> fmt::Result {
+        f.write_str(match self {
+            HeaderFault::Mark => "not the mark of a file's first sector",
+            HeaderFault::End => "the last sector and the bytes used there are no end of a file",
+            HeaderFault::Link => "an address is not as due",
+        })
     }
 }
 
-// Fills the list with the addresses from byte `at` on.
-pub(crate) fn get_addresses(sector: &SectorBytes, at: usize, list: &mut [Address])
-    requires { at + word_size * length list.old ≤ sector_size }
-    ensures { list.new ≡ addresses_in sector.now at (length list.old) }
-{
-    for i in 0..list.len() {
-        list[i] = Address(get(sector, at + 4 * i));
-    }
-}
-
-// Reads the name's field from byte `at` on.
-pub(crate) fn get_name(sector: &SectorBytes, at: usize) -> Name
-    requires { at + name_size ≤ sector_size }
-    ensures { result.bytes ≡ part sector.now at name_size }
-{
-    let mut bytes = [0u8; 32];
-    bytes.copy_from_slice(&sector[at..at + 32]);
-    Name { bytes }
-}
-
-// Are the addresses from entry `from` on as due, where the first `due` are to lead to sectors?
-fn are_as_due(list: &[Address], from: usize, due: u32, size: u16) -> bool
-    requires { length list.now ≤ sector_size }
-    ensures { result ≡ due_from size due from (drop from (numbers list.now)) }
-{
-    for i in from..list.len() {
-        if !list[i].is_as_due((i as u32) < due, size) {
-            return false;
-        }
-    }
-    true
-}
+impl Error for HeaderFault {}
 
 impl Header {
     // The header of an empty file: its date is 0, and its first sector is all that it has.
     pub fn new(name: Name, own: Sector) -> Header
         ensures { result ≡ empty_header name own.0 }
     {
-        let mut sectors = [Address(0); 64];
-        sectors[0] = own.address();
+        let mut sectors = [Address::default(); NEAR_ADDRESSES];
+        sectors[0] = Address::from(own);
         Header {
             name,
             length: Length(0),
             date: 0,
-            tables: [Address(0); 12],
+            tables: [Address::default(); MOST_TABLES],
             sectors,
         }
     }
@@ -123,24 +101,18 @@ impl Header {
     pub fn read(sector: &SectorBytes) -> Result<Header, HeaderFault>
         ensures { result ≡ read_header sector.now }
     {
-        if get(sector, MARK_AT) != FILE_MARK {
+        if u32::load(sector, MARK_AT) != FILE_MARK {
             return Err(HeaderFault::Mark);
         }
-        let Some(length) = Length::from_end(get(sector, LAST_AT), get(sector, USED_AT)) else {
-            return Err(HeaderFault::End);
-        };
-        let name = get_name(sector, NAME_AT);
-        let date = get(sector, DATE_AT);
-        let mut tables = [Address(0); 12];
-        get_addresses(sector, TABLES_AT, &mut tables);
-        let mut sectors = [Address(0); 64];
-        get_addresses(sector, SECTORS_AT, &mut sectors);
+        let length = Length::from_end(u32::load(sector, LAST_AT), u32::load(sector, USED_AT)).ok_or(
+            HeaderFault::End,
+        )?;
         Ok(Header {
-            name,
+            name: Name::load(sector, NAME_AT),
             length,
-            date,
-            tables,
-            sectors,
+            date: u32::load(sector, DATE_AT),
+            tables: Stored::load(sector, TABLES_AT),
+            sectors: Stored::load(sector, SECTORS_AT),
         })
     }
 
@@ -149,13 +121,9 @@ impl Header {
         ensures { result ≡ links_due own.0 size self.now }
     {
         let last = self.length.last_sector();
-        if self.sectors[0].0 != own.address().0 {
-            return false;
-        }
-        if !are_as_due(&self.sectors, 1, last + 1, size) {
-            return false;
-        }
-        are_as_due(&self.tables, 0, tables_of(last), size)
+        self.sectors[0] == Address::from(own)
+            && are_as_due(&self.sectors[1..], last, size)
+            && are_as_due(&self.tables, tables_of(last), size)
     }
 
     // The header of the file whose first sector is `own`, on a disk of `size` sectors.
@@ -173,26 +141,26 @@ impl Header {
     pub fn encode(&self, sector: &mut SectorBytes)
         ensures { sector.new ≡ written sector.old 0 (header_bytes self.now) }
     {
-        put(sector, MARK_AT, FILE_MARK);
-        put_name(sector, NAME_AT, &self.name);
-        put(sector, LAST_AT, self.length.last_sector());
-        put(sector, USED_AT, self.length.last_bytes());
-        put(sector, DATE_AT, self.date);
-        put_addresses(sector, TABLES_AT, &self.tables);
-        put_addresses(sector, SECTORS_AT, &self.sectors);
+        FILE_MARK.store(sector, MARK_AT);
+        self.name.store(sector, NAME_AT);
+        self.length.last_sector().store(sector, LAST_AT);
+        self.length.last_bytes().store(sector, USED_AT);
+        self.date.store(sector, DATE_AT);
+        self.tables.store(sector, TABLES_AT);
+        self.sectors.store(sector, SECTORS_AT);
     }
 
     // The address of file sector `i`, where the first sector has it.
     pub fn sector(&self, i: usize) -> Option<Address>
         ensures { MatchOption result (near_sectors ≤ i) (λ a. (i < near_sectors) × (a.0 ≡ slice_index (numbers self.now.sectors) i)) }
     {
-        if i < 64 { Some(self.sectors[i]) } else { None }
+        self.sectors.get(i).copied()
     }
 
     // The address of extension table `k`, of which there are at most twelve.
     pub fn table(&self, k: usize) -> Option<Address>
         ensures { MatchOption result (most_tables ≤ k) (λ a. (k < most_tables) × (a.0 ≡ slice_index (numbers self.now.tables) k)) }
     {
-        if k < 12 { Some(self.tables[k]) } else { None }
+        self.tables.get(k).copied()
     }
 }

@@ -1,18 +1,20 @@
 // Extension tables.
 ghost use Rattle.std.specs.Prelude.{◌≡◌, ℕ, ◌+◌, ◌<◌, ◌≤◌, true, false, length, MatchOption, slice_index};
-ghost use Rattle.layout.specs.Headers.{numbers};
+ghost use Rattle.layout.specs.Words.{numbers};
 ghost use Rattle.numbers.specs.Lengths.{table_sectors};
 ghost use Rattle.layout.specs.Tables.{table_bytes, table_in, table_place, in_table};
 
-use crate::header::{get_addresses, put_addresses};
-use crate::word::SectorBytes;
+use crate::word::{SECTOR_SIZE, SectorBytes, Stored};
 use numbers::length::{LAST_OF_LONGEST, NEAR_SECTORS, TABLE_SECTORS};
 use numbers::sector::Address;
 
+// The addresses in a table.
+pub const TABLE_ADDRESSES: usize = TABLE_SECTORS as usize;
+
 // An extension table: the addresses of 256 file sectors. Past the end of the file they are left free.
-#[derive(Clone, Copy)]
+#[derive(Clone, Copy, Debug)]
 pub struct Table {
-    pub sectors: [Address; 256],
+    pub sectors: [Address; TABLE_ADDRESSES],
 }
 
 impl Table {
@@ -20,8 +22,8 @@ impl Table {
     pub fn encode(&self) -> SectorBytes
         ensures { result ≡ table_bytes self.now }
     {
-        let mut sector = [0u8; 1024];
-        put_addresses(&mut sector, 0, &self.sectors);
+        let mut sector = [0u8; SECTOR_SIZE];
+        self.sectors.store(&mut sector, 0);
         sector
     }
 
@@ -29,16 +31,16 @@ impl Table {
     pub fn decode(sector: &SectorBytes) -> Table
         ensures { result ≡ table_in sector.now }
     {
-        let mut sectors = [Address(0); 256];
-        get_addresses(sector, 0, &mut sectors);
-        Table { sectors }
+        Table {
+            sectors: Stored::load(sector, 0),
+        }
     }
 
     // Entry `j` of the table.
     pub fn sector(&self, j: usize) -> Option<Address>
         ensures { MatchOption result (table_sectors ≤ j) (λ a. (j < table_sectors) × (a.0 ≡ slice_index (numbers self.now.sectors) j)) }
     {
-        if j < 256 { Some(self.sectors[j]) } else { None }
+        self.sectors.get(j).copied()
     }
 }
 

@@ -1,19 +1,14 @@
 -- Addresses and the sectors that they lead to.
-use Rattle.std.proofs.Common.{◌≡◌, ℕ, ◌/◌, ◌%◌, ◌<◌, ◌≤◌, Bool, true, false, cond, ◌&&◌, eqb, ltb, leb, Some, None, refl, ap, ◌∙◌, subst, arith}
-use Rattle.std.proofs.lemmas.Bool.{and_parts, and_from, eqb-true, leb-true, ltb-true, eq-eqb, le-leb, lt-ltb}
+use Rattle.std.proofs.Common.{◌≡◌, ℕ, ◌/◌, ◌<◌, ◌≤◌, Bool, true, false, cond, Some, None, refl, ap, ◌∙◌, subst, arith}
+use Rattle.std.proofs.lemmas.Bool.Decides.{nat_tests}
 use Rattle.numbers.specs.declared.sector.Sector.{Sector}
 use Rattle.numbers.specs.Sectors.{address, leads, sector_at, first_linked, address_step, Addresses}
 
 pub leads-says : (size w : ℕ) → leads size w ≡ true → (w ≡ address (w / address_step)) × (first_linked ≤ w / address_step) × (w / address_step < size)
-leads-says size w l =
-    let p = and_parts (eqb (w % address_step) 0) (leb first_linked (w / address_step) && ltb (w / address_step) size) l in
-    let q = and_parts (leb first_linked (w / address_step)) (ltb (w / address_step) size) p.1 in
-    omega (arith, eqb-true (w % address_step) 0 p.0, leb-true first_linked (w / address_step) q.0, ltb-true (w / address_step) size q.1)
+leads-says size w l = (grind (arith, nat_tests), grind (arith, nat_tests), grind (arith, nat_tests))
 
 pub leads-from : (size n : ℕ) → first_linked ≤ n → n < size → leads size (address n) ≡ true
-leads-from size n l h =
-    and_from (eqb (address n % address_step) 0) _ (eq-eqb (address n % address_step) 0 (omega arith))
-    (and_from (leb first_linked (address n / address_step)) _ (le-leb first_linked (address n / address_step) (omega arith)) (lt-ltb (address n / address_step) size (omega arith)))
+leads-from size n l h = grind (arith, nat_tests)
 
 leads-to : (size w : ℕ) (s : Sector) → sector_at size w ≡ Some s → (w ≡ address s.0) × (first_linked ≤ s.0) × (s.0 < size)
 leads-to size w s e = go (leads size w) refl e
@@ -22,7 +17,7 @@ leads-to size w s e = go (leads size w) refl e
     go true l e =
         let f : record { 0 = w / address_step } ≡ s = cc in
         subst (λ (t : Sector). (w ≡ address t.0) × (first_linked ≤ t.0) × (t.0 < size)) f (leads-says size w l)
-    go false l e = let z : ◌≡◌ {A = ℕ} 0 1 = cc in absurd (omega arith)
+    go false l e = cc
 
 pub led-to : (size : ℕ) (s : Sector) → first_linked ≤ s.0 → s.0 < size → sector_at size (address s.0) ≡ Some s
 led-to size s l h =

@@ -1,52 +1,56 @@
 -- Names and the fields that hold them.
-use Rattle.std.proofs.Common.{◌≡◌, ℕ, zero, suc, ◌+◌, ◌-◌, ◌<◌, ◌≤◌, Bool, true, false, ◌&&◌, leb, List, [], ◌∷◌, ◌++◌, length, get_or, take, drop, replicate, sym, refl, ap, ◌∙◌, ap₂, arith}
+use Rattle.std.proofs.Common.{◌≡◌, ℕ, zero, suc, ◌+◌, ◌-◌, ◌≤◌, Bool, true, false, ◌&&◌, leb, eqb, ltb, cond, Some, None, List, [], ◌∷◌, ◌++◌, length, get_or, take, drop, replicate, sym, refl, ap, ◌∙◌, ap₂, arith}
 use Rattle.std.specs.Str.{bytes_eq}
 use Rattle.std.proofs.lemmas.Slice.Eq.{bytes_eq-Decides}
-use Rattle.std.proofs.lemmas.List.{at_drop_more, at_drop_all, drop-replicate, length-append, length-replicate}
-use Rattle.std.proofs.lemmas.Bool.{and_parts, and_from, and_left, and_right, le-leb, leb-true}
+use Rattle.std.specs.List.{position, position_or_len}
+use Rattle.std.proofs.Math.Bool.{and-true}
+use Rattle.std.proofs.lemmas.List.{take_all, drop-replicate, length-append, length-replicate}
+use Rattle.std.proofs.lemmas.Bool.Decides.{nat_tests}
+use Rattle.std.proofs.lemmas.Bool.{and_parts, and_from, le-leb, ltb-false, ne_eqb}
 use Rattle.numbers.specs.Names.{Key, longest_name, name_size, letter, letter_digit_dot, every, good_name, name_field, name_in, is_name_field, NameFields}
 
--- A TEST OF EACH BYTE
-pub every-step : (f : ℕ → Bool) (s : List ℕ) (i : ℕ) (b : Bool) → i < length s → b ≡ f (get_or s i 0) → every f (drop i s) ≡ (b && every f (drop (i + 1) s))
-every-step f s i b h e = at_drop_more (every f) s i 0 h ∙ ap (λ (x : Bool). x && every f (drop (i + 1) s)) (sym e)
-
-pub every-end : (f : ℕ → Bool) (s : List ℕ) (i : ℕ) → length s ≤ i → every f (drop i s) ≡ true
-every-end f s i h = at_drop_all (every f) s i h
-
 -- GOOD NAMES
-pub good-not-rest : (s : List ℕ) → every letter_digit_dot (drop 1 s) ≡ false → good_name s ≡ false
-good-not-rest [] h = refl
-good-not-rest (b ∷ bs) h = and_right (letter b) _ (and_left (every letter_digit_dot bs) _ h)
-
-pub good-name : (s : List ℕ) → 1 ≤ length s → length s ≤ longest_name → letter (get_or s 0 0) ≡ true → every letter_digit_dot (drop 1 s) ≡ true → good_name s ≡ true
-good-name [] l h a b = absurd (omega arith)
-good-name (b ∷ bs) l h a r = and_from (letter b) _ a (and_from (every letter_digit_dot bs) _ r (le-leb (length (b ∷ bs)) longest_name h))
+-- once the first byte and the length are as they should be, the others decide
+pub good-by-rest : (s : List ℕ) → 1 ≤ length s → letter (get_or s 0 0) ≡ true → length s ≤ longest_name → every letter_digit_dot (drop 1 s) ≡ good_name s
+good-by-rest [] l a h = absurd (omega arith)
+good-by-rest (b ∷ bs) l a h = rw (a, le-leb (length (b ∷ bs)) longest_name h, and-true)
 
 pub good_length : (k : Key) → good_name k ≡ true → length k ≤ longest_name
 good_length [] h = omega arith
-good_length (b ∷ bs) h =
-    let p = and_parts (letter b) (every letter_digit_dot bs && leb (length (b ∷ bs)) longest_name) h in
-    leb-true (length (b ∷ bs)) longest_name (and_parts (every letter_digit_dot bs) (leb (length (b ∷ bs)) longest_name) p.1).1
+good_length (b ∷ bs) h = grind (arith, nat_tests)
 
 -- FIELDS
-pub name-front : (f : List ℕ) → take (length (name_in f)) f ≡ name_in f
+name-front : (f : List ℕ) → take (position_or_len (λ b. eqb b 0) f) f ≡ name_in f
 name-front [] = refl
 name-front (zero ∷ bs) = refl
-name-front (suc b ∷ bs) = ap (λ (t : List ℕ). suc b ∷ t) (name-front bs)
+name-front (suc b ∷ bs) =
+    let n = position_or_len (λ b. eqb b 0) bs in
+    let e : eqb (suc b) 0 ≡ false = ne_eqb (suc b) 0 (omega arith) in
+    let s : 1 + n ≡ suc n = omega arith in
+    rw (e, s) (ap (λ (t : List ℕ). suc b ∷ t) (name-front bs))
 
-pub front-is : (f : List ℕ) (n : ℕ) → n ≡ length (name_in f) → take (n - 0) f ≡ name_in f
-front-is f n e = let s : n - 0 ≡ length (name_in f) = omega arith in ap (λ (k : ℕ). take k f) s ∙ name-front f
+pub front-found : (f : List ℕ) (n : ℕ) → position (λ b. eqb b 0) f ≡ Some n → take n f ≡ name_in f
+front-found f n e = ap (λ (k : ℕ). take k f) (at (ltb (position_or_len (λ b. eqb b 0) f) (length f)) e) ∙ name-front f
+  where
+    at : (b : Bool) → cond b (Some (position_or_len (λ b. eqb b 0) f)) None ≡ Some n → n ≡ position_or_len (λ b. eqb b 0) f
+    at true e = cc
+    at false e = cc
+
+pub front-whole : (f : List ℕ) → position (λ b. eqb b 0) f ≡ None → f ≡ name_in f
+front-whole f e = sym (take_all (position_or_len (λ b. eqb b 0) f) f (past (ltb (position_or_len (λ b. eqb b 0) f) (length f)) refl e)) ∙ name-front f
+  where
+    past : (b : Bool) → ltb (position_or_len (λ b. eqb b 0) f) (length f) ≡ b → cond b (Some (position_or_len (λ b. eqb b 0) f)) None ≡ None → length f ≤ position_or_len (λ b. eqb b 0) f
+    past true h e = cc
+    past false h e = ltb-false (position_or_len (λ b. eqb b 0) f) (length f) h
 
 -- a text put at the front of zeros
-pub zero-filled : (t ys : List ℕ) → ys ≡ t → ys ++ drop (length t - 0) (replicate name_size 0) ≡ name_field t
-zero-filled t ys e =
-    let s : length t - 0 ≡ length t = omega arith in
-    ap₂ ◌++◌ e (ap (λ (n : ℕ). drop n (replicate name_size 0)) s ∙ drop-replicate (length t) name_size 0)
+pub zero-filled : (t ys : List ℕ) → ys ≡ t → ys ++ drop (length t) (replicate name_size 0) ≡ name_field t
+zero-filled t ys e = ap₂ ◌++◌ e (drop-replicate (length t) name_size 0)
 
 back-again : (xs : List ℕ) (m : ℕ) → every letter_digit_dot xs ≡ true → name_in (xs ++ replicate m 0) ≡ xs
 back-again [] zero h = refl
 back-again [] (suc m) h = refl
-back-again (zero ∷ xs) m h = let z : ◌≡◌ {A = ℕ} 0 1 = cc in absurd (omega arith)
+back-again (zero ∷ xs) m h = cc
 back-again (suc x ∷ xs) m h = ap (λ (l : List ℕ). suc x ∷ l) (back-again xs m (and_parts (letter_digit_dot (suc x)) (every letter_digit_dot xs) h).1)
 
 -- each byte of a good name is a letter, a digit or a dot, so none is 0
@@ -72,21 +76,6 @@ pub only : (f : List ℕ) → is_name_field f ≡ true → (good_name (name_in f
 only f h =
     let p = and_parts (good_name (name_in f)) (bytes_eq (name_field (name_in f)) f) h in
     (p.0, (bytes_eq-Decides (name_field (name_in f)) f).0 p.1)
-
--- a field whose first n bytes are its name t: it has the form exactly if t is good and has it as field
-module _ (f t : List ℕ) (e : t ≡ name_in f) where
-  pub no_name : good_name t ≡ false → is_name_field f ≡ false
-  no_name h = and_left (good_name (name_in f)) _ (ap good_name (sym e) ∙ h)
-
-  pub is_field : (b : List ℕ) → good_name t ≡ true → b ≡ name_field t → b ≡ f → is_name_field f ≡ true
-  is_field b g h k = and_from (good_name (name_in f)) _ (ap good_name (sym e) ∙ g) ((bytes_eq-Decides (name_field (name_in f)) f).1 (ap name_field (sym e) ∙ sym h ∙ k))
-
-  pub no_field : (b : List ℕ) → b ≡ name_field t → (b ≡ f → ⊥) → is_name_field f ≡ false
-  no_field b h k = go (is_name_field f) refl
-    where
-      go : (x : Bool) → is_name_field f ≡ x → x ≡ false
-      go true i = absurd (k (h ∙ ap name_field e ∙ (only f i).1))
-      go false i = refl
 
 pub name-fields : NameFields
 name-fields = record { found = found; sized = sized; formed = formed; only = only }

@@ -1,7 +1,10 @@
 -- The order of names.
-use Rattle.std.proofs.Common.{◌≡◌, ℕ, zero, suc, ◌+◌, ◌-◌, ◌<◌, ◌≤◌, true, List, [], ◌∷◌, ◌++◌, length, get_or, drop, replicate, refl, ap, ◌∙◌, subst, ap₂, arith}
+use Rattle.std.proofs.Common.{◌≡◌, ℕ, zero, suc, ◌+◌, ◌-◌, ◌<◌, true, List, [], ◌∷◌, ◌++◌, length, replicate, sym, refl, ap, ◌∙◌, subst, ap₂, arith}
 use Rattle.std.proofs.lemmas.Bool.{and_parts}
-use Rattle.std.proofs.lemmas.List.{drop_more, drop_all}
+use Rattle.std.proofs.lemmas.Cmp.{ranked, by_ranked, nat_list_cmp_total}
+use Rattle.std.proofs.lemmas.Map.Lookups.{exact_bytes}
+use Rattle.std.specs.Ordering.{nat_cmp, ordering_reverse}
+use Rattle.std.specs.Cmp.Lexicographic.{slice_cmp}
 use Rattle.numbers.specs.Names.{Key, name_size, letter_digit_dot, every, good_name, name_field}
 use Rattle.numbers.specs.Order.{Cmp, below, same, above, turn, then, cmpℕ, cmp, IsOrder, NameOrder}
 use Rattle.numbers.proofs.Naming.{good-every, good_length}
@@ -41,44 +44,30 @@ moreℕ : (m n : ℕ) → n < m → cmpℕ m n ≡ above
 moreℕ m n h = turnℕ n m ∙ ap turn (lessℕ n m h)
 
 -- NAMES
-turn-then : (a b : Cmp) → then (turn a) (turn b) ≡ turn (then a b)
-turn-then below b = refl
-turn-then same b = refl
-turn-then above b = refl
+-- as the library compares bytes
+byte-cmp : (x y : ℕ) → nat_cmp x y ≡ cmpℕ x y
+byte-cmp x y =
+    by_ranked (x < y) (x ≡ y) (y < x) (nat_cmp x y) (ranked x y (nat_cmp x y) refl) (λ e h. e ∙ sym (lessℕ x y h))
+    (λ e h. e ∙ sym (subst (λ (n : ℕ). cmpℕ x n ≡ same) h (itselfℕ x))) (λ e h. e ∙ sym (moreℕ x y h))
 
-turned : (a b : Key) → cmp b a ≡ turn (cmp a b)
-turned [] [] = refl
-turned [] (y ∷ ys) = refl
-turned (x ∷ xs) [] = refl
-turned (x ∷ xs) (y ∷ ys) = ap₂ then (turnℕ x y) (turned xs ys) ∙ turn-then (cmpℕ x y) (cmp xs ys)
+pub type-order : (a b : Key) → slice_cmp nat_cmp a b ≡ cmp a b
+type-order [] [] = refl
+type-order [] (y ∷ ys) = refl
+type-order (x ∷ xs) [] = refl
+type-order (x ∷ xs) (y ∷ ys) = ap₂ then (byte-cmp x y) (type-order xs ys)
 
-both : (a b : Cmp) → then a b ≡ same → (a ≡ same) × (b ≡ same)
-both below b e = (e, cc)
-both same b e = (refl, e)
-both above b e = (e, cc)
+turned-back : (o : Cmp) → ordering_reverse o ≡ turn o
+turned-back below = refl
+turned-back same = refl
+turned-back above = refl
 
-exact : (a b : Key) → cmp a b ≡ same → a ≡ b
-exact [] [] e = refl
-exact [] (y ∷ ys) e = cc
-exact (x ∷ xs) [] e = cc
-exact (x ∷ xs) (y ∷ ys) e = let h = both (cmpℕ x y) (cmp xs ys) e in ap₂ ◌∷◌ (sameℕ x y h.0) (exact xs ys h.1)
-
-carried : (a b c : Key) → cmp a b ≡ below → cmp b c ≡ below → cmp a c ≡ below
-carried [] [] c e f = cc
-carried [] (y ∷ ys) [] e f = cc
-carried [] (y ∷ ys) (z ∷ zs) e f = refl
-carried (x ∷ xs) [] c e f = cc
-carried (x ∷ xs) (y ∷ ys) [] e f = cc
-carried (x ∷ xs) (y ∷ ys) (z ∷ zs) e f = go (λ e f. carried xs ys zs e f) (cmpℕ x y) (cmpℕ y z) refl refl e f
-  where
-    go : (cmp xs ys ≡ below → cmp ys zs ≡ below → cmp xs zs ≡ below) → (p q : Cmp) → cmpℕ x y ≡ p → cmpℕ y z ≡ q → then p (cmp xs ys) ≡ below → then q (cmp ys zs) ≡ below → then (cmpℕ x z) (cmp xs zs) ≡ below
-    go r below below i j e f = rw (transℕ x y z i j)
-    go r below same i j e f = rw (subst (λ (w : ℕ). cmpℕ x w ≡ below) (sameℕ y z j) i)
-    go r below above i j e f = cc
-    go r same below i j e f = rw (sameℕ x y i) (rw j refl)
-    go r same same i j e f = rw (sameℕ x y i) (rw j (r e f))
-    go r same above i j e f = cc
-    go r above q i j e f = cc
+pub byte-order : IsOrder Key cmp
+byte-order =
+    record {
+      turned = λ a b. sym (type-order b a) ∙ nat_list_cmp_total.antisymm b a ∙ turned-back (slice_cmp nat_cmp a b) ∙ ap turn (type-order a b);
+      carried = λ a b c e f. sym (type-order a c) ∙ nat_list_cmp_total.trans a b c (type-order a b ∙ e) (type-order b c ∙ f);
+      alike = λ a b c e. sym (type-order a c) ∙ nat_list_cmp_total.congr a b c (type-order a b ∙ e) ∙ type-order b c;
+    }
 
 -- STORED NAMES
 zeros-same : (n : ℕ) → cmp (replicate n 0) (replicate n 0) ≡ same
@@ -88,10 +77,10 @@ zeros-same (suc n) = zeros-same n
 -- two names without a 0, filled with zeros to one length
 filled : (a b : List ℕ) (m n : ℕ) → every letter_digit_dot a ≡ true → every letter_digit_dot b ≡ true → length a + m ≡ length b + n → cmp (a ++ replicate m 0) (b ++ replicate n 0) ≡ cmp a b
 filled [] [] m n h k e = let q : m ≡ n = omega arith in subst (λ (j : ℕ). cmp (replicate m 0) (replicate j 0) ≡ same) q (zeros-same m)
-filled [] (zero ∷ b) m n h k e = let z : ◌≡◌ {A = ℕ} 0 1 = cc in absurd (omega arith)
+filled [] (zero ∷ b) m n h k e = cc
 filled [] (suc y ∷ b) zero n h k e = absurd (omega arith)
 filled [] (suc y ∷ b) (suc m) n h k e = refl
-filled (zero ∷ a) [] m n h k e = let z : ◌≡◌ {A = ℕ} 0 1 = cc in absurd (omega arith)
+filled (zero ∷ a) [] m n h k e = cc
 filled (suc x ∷ a) [] m zero h k e = absurd (omega arith)
 filled (suc x ∷ a) [] m (suc n) h k e = refl
 filled (x ∷ a) (y ∷ b) m n h k e =
@@ -101,24 +90,5 @@ stored-order : (a b : Key) → good_name a ≡ true → good_name b ≡ true →
 stored-order a b h k =
     filled a b (name_size - length a) (name_size - length b) (good-every a h) (good-every b k) (omega (arith, good_length a h, good_length b k))
 
-pub byte-order : IsOrder Key cmp
-byte-order = record { turned = turned; carried = carried; alike = λ a b c e. ap (λ (k : Key). cmp k c) (exact a b e) }
-
 pub name-order : NameOrder
-name-order = record { order = byte-order; exact = exact; stored_order = stored-order }
-
--- A COMPARE, BYTE BY BYTE
-module _ (a b : List ℕ) (i : ℕ) (la : i < length a) (lb : i < length b) where
-  pub step_less : get_or a i 0 < get_or b i 0 → cmp (drop i a) (drop i b) ≡ below
-  step_less h = ap₂ cmp (drop_more a i 0 la) (drop_more b i 0 lb) ∙ ap (λ (c : Cmp). then c (cmp (drop (i + 1) a) (drop (i + 1) b))) (lessℕ (get_or a i 0) (get_or b i 0) h)
-
-  pub step-more : get_or b i 0 < get_or a i 0 → cmp (drop i a) (drop i b) ≡ above
-  step-more h = ap₂ cmp (drop_more a i 0 la) (drop_more b i 0 lb) ∙ ap (λ (c : Cmp). then c (cmp (drop (i + 1) a) (drop (i + 1) b))) (moreℕ (get_or a i 0) (get_or b i 0) h)
-
-  pub step_same : get_or a i 0 ≡ get_or b i 0 → cmp (drop i a) (drop i b) ≡ cmp (drop (i + 1) a) (drop (i + 1) b)
-  step_same h =
-      ap₂ cmp (drop_more a i 0 la) (drop_more b i 0 lb)
-      ∙ ap (λ (c : Cmp). then c (cmp (drop (i + 1) a) (drop (i + 1) b))) (subst (λ (n : ℕ). cmpℕ (get_or a i 0) n ≡ same) h (itselfℕ (get_or a i 0)))
-
-pub step_end : (a b : List ℕ) (i : ℕ) → length a ≤ i → length b ≤ i → cmp (drop i a) (drop i b) ≡ same
-step_end a b i la lb = ap₂ cmp (drop_all i a la) (drop_all i b lb)
+name-order = record { order = byte-order; exact = λ a b e. exact_bytes a b (type-order a b ∙ e); stored_order = stored-order }

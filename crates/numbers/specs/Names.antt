@@ -1,6 +1,7 @@
 -- Names of files, and the field of a sector that holds one.
 use Rattle.std.specs.Prelude.{◌≡◌, ℕ, zero, suc, ◌-◌, Bool, true, false, ◌&&◌, ◌||◌, List, [], ◌∷◌, ◌++◌, length, replicate, ◌==◌, nat_le}
 use Rattle.std.specs.Str.{bytes_eq}
+pub use Rattle.std.specs.List.{list_all as every}
 
 -- the bytes of a name
 abbrev pub Key : Type 0
@@ -23,10 +24,6 @@ letter b = between 65 90 b || between 97 122 b
 -- also '0' to '9' and '.'
 abbrev pub letter_digit_dot : ℕ → Bool
 letter_digit_dot b = letter b || (between 48 57 b || b == 46)
-
-abbrev pub every : (ℕ → Bool) → List ℕ → Bool
-every f [] = true
-every f (b ∷ bs) = f b && every f bs
 
 -- 1 to 31 bytes, a letter first, then letters, digits or dots
 abbrev pub good_name : Key → Bool

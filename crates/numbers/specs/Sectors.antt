@@ -9,6 +9,11 @@ address_step = 29
 abbrev pub address : ℕ → ℕ
 address n = address_step * n
 
+-- the address that stands for a sector or for none
+abbrev pub link_address : Option Sector → ℕ
+link_address None = 0
+link_address (Some s) = address s.0
+
 -- the first sector that an address may lead to: 0 is unused and 1 is the root page
 abbrev pub first_linked : ℕ
 first_linked = 2

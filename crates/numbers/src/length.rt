@@ -25,7 +25,7 @@ fn with_header(bytes: u32) -> u64
 }
 
 // The length of a file in bytes.
-#[derive(Clone, Copy, PartialEq, Eq)]
+#[derive(Clone, Copy, Debug, Default, PartialEq, Eq, PartialOrd, Ord)]
 pub struct Length(pub u32);
 
 impl Length {

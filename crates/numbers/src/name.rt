@@ -5,57 +5,52 @@ ghost use Rattle.numbers.specs.Order.{cmp};
 
 use std::cmp::Ordering;
 
-// A name as it is stored: its bytes, zero-filled to 32.
-#[derive(Clone, Copy)]
+// The longest name, and the bytes of the field that holds one.
+pub const LONGEST_NAME: usize = 31;
+
+pub const NAME_SIZE: usize = 32;
+
+// A name as it is stored: its bytes, zero-filled to 32. Names rise by their first differing byte.
+#[derive(Clone, Copy, Debug, Default, PartialEq, Eq, PartialOrd, Ord)]
 pub struct Name {
-    pub bytes: [u8; 32],
+    pub bytes: [u8; NAME_SIZE],
 }
 
 fn is_letter(b: u8) -> bool
     ensures { result ≡ letter b }
 {
-    match b as char {
-        'A'..='Z' | 'a'..='z' => true,
-        _ => false,
-    }
+    matches!(b as char, 'A'..='Z' | 'a'..='z')
 }
 
 fn is_name_byte(b: u8) -> bool
     ensures { result ≡ letter_digit_dot b }
 {
-    match b as char {
-        'A'..='Z' | 'a'..='z' | '0'..='9' | '.' => true,
-        _ => false,
-    }
+    is_letter(b) || matches!(b as char, '0'..='9' | '.')
 }
 
 // Has the name 1 to 31 bytes, a letter first, then letters, digits or dots?
 pub fn is_good_name(text: &[u8]) -> bool
     ensures { result ≡ good_name text.now }
 {
-    if text.len() == 0 || text.len() > 31 || !is_letter(text[0]) {
-        return false;
-    }
-    for i in 1..text.len() {
-        if !is_name_byte(text[i]) {
-            return false;
+    match text {
+        [first, rest @ ..] if is_letter(*first) && text.len() <= LONGEST_NAME => {
+            rest.iter().all(|b| is_name_byte(*b))
         }
+        _ => false,
     }
-    true
 }
 
-// The number of bytes before the first 0.
-fn text_len(field: &[u8; 32]) -> usize
-    ensures { (result ≡ length (name_in field.now)) × (result ≤ 32) }
+// The bytes of a field before its first 0.
+fn text_in(field: &[u8]) -> &[u8]
+    ensures { result.now ≡ name_in field.now }
 {
-    for i in 0..32 {
-        if field[i] == 0 {
-            return i;
-        }
+    match field.iter().position(|b| *b == 0) {
+        Some(end) => &field[..end],
+        None => field,
     }
-    32
 }
 
+// Two turns from bytes, told apart by their names: as `TryFrom` a text and a field would both be `try_from`.
 impl Name {
     // The name of these bytes, if it is a good one.
     pub fn new(text: &[u8]) -> Option<Name>
@@ -64,42 +59,30 @@ impl Name {
         if !is_good_name(text) {
             return None;
         }
-        let mut bytes = [0u8; 32];
-        bytes[0..text.len()].copy_from_slice(text);
+        let mut bytes = [0u8; NAME_SIZE];
+        bytes[..text.len()].copy_from_slice(text);
         Some(Name { bytes })
     }
 
     // The name in a field of 32 bytes, if the field holds a good one, zero-filled.
-    pub fn from_field(field: [u8; 32]) -> Option<Name>
+    pub fn from_field(field: [u8; NAME_SIZE]) -> Option<Name>
         ensures { MatchOption result (is_name_field field ≡ false) (λ n. (is_name_field field ≡ true) × (n.bytes ≡ field)) }
     {
-        let name = Name::new(&field[0..text_len(&field)])?;
-        if name.bytes == field {
-            Some(name)
-        } else {
-            None
-        }
+        let name = Name::new(text_in(&field))?;
+        (name.bytes == field).then_some(name)
     }
 
     // The bytes of the name, without its zeros.
     pub fn text(&self) -> &[u8]
         ensures { result.now ≡ name_in self.now.bytes }
     {
-        &self.bytes[0..text_len(&self.bytes)]
+        text_in(&self.bytes)
     }
 
     // Is this name below the other, the same, or above it?
     pub fn compare(&self, other: &Name) -> Ordering
         ensures { result ≡ cmp self.now.bytes other.now.bytes }
     {
-        for i in 0..32 {
-            if self.bytes[i] < other.bytes[i] {
-                return Ordering::Less;
-            }
-            if self.bytes[i] > other.bytes[i] {
-                return Ordering::Greater;
-            }
-        }
-        Ordering::Equal
+        self.cmp(other)
     }
 }

@@ -1,14 +1,16 @@
-use Rattle.std.proofs.Common.{true, false, sym, ◌∙◌, arith}
-use Rattle.layout.proofs.Heading.{due-step, due-end}
+use Rattle.std.proofs.Common.{rules, tests, ◌≡◌, ℕ, ltb, arith, ◌∙◌}
+use Rattle.std.specs.List.{list_all, enumerate_from}
+use Rattle.std.proofs.lemmas.Iterator.{YieldsList-from_slice}
+use Rattle.std.proofs.lemmas.Iterator.Consumers.{YieldsList-from_enumerate}
+use Rattle.std.proofs.lemmas.Iterator.Search.{all_from_yields_List}
+use Rattle.numbers.specs.declared.sector.Address.{Address}
+use Rattle.numbers.specs.Sectors.{as_due}
+use Rattle.layout.proofs.Heading.{due-all}
 use Rattle.layout.proofs.header.are_as_due.Goals as goal
 
-pub returns-then-not-is_as_due : goal.returns-then-not-is_as_due
-returns-then-not-is_as_due c =
-    sym (c.loop-i.invariant ∙ due-step c.args.size c.args.due c.loop-i.i c.args.list.now (record { 0 = 0 }) false (omega arith) c.if-not-is_as_due.ensures)
-
-pub loop-i-preserved : goal.loop-i-preserved
-loop-i-preserved c =
-    c.loop-i.invariant ∙ due-step c.args.size c.args.due c.loop-i.i c.args.list.now (record { 0 = 0 }) true (omega arith) c.if-not-is_as_due.ensures
-
 pub returns : goal.returns
-returns c = sym (c.loop-i.invariant ∙ due-end c.args.size c.args.due c.loop-i.i c.args.list.now (omega arith))
+returns c = λ from.
+    let p : c.all.result ≡ list_all (λ (p : ℕ × Address). as_due c.args.size (ltb p.0 c.args.due) p.1.0) (enumerate_from 0 c.args.list.now) =
+    all_from_yields_List (λ (p : ℕ × Address). as_due c.args.size (ltb p.0 c.args.due) p.1.0) _ _ c.all.result c.all.ensures.ran
+    (YieldsList-from_enumerate (YieldsList-from_slice c.args.list.now cc) (cc)) (λ x b q k. search (rules, tests)) in
+    p ∙ due-all c.args.size c.args.due from 0 from (omega arith) c.args.list.now

@@ -1,17 +1,14 @@
-use Rattle.std.proofs.Common.{true, false, sym, ◌∙◌, arith}
-use Rattle.numbers.specs.Names.{letter_digit_dot}
-use Rattle.numbers.proofs.Naming.{every-step, every-end, good-not-rest, good-name}
+use Rattle.std.proofs.Common.{rules, tests, ◌≡◌, ◌-◌, arith, length, drop, sym, ◌∙◌}
+use Rattle.std.proofs.lemmas.Iterator.{YieldsList-from_slice}
+use Rattle.std.proofs.lemmas.Iterator.Search.{all_from_yields_List}
+use Rattle.std.proofs.lemmas.List.{take_all, length-drop}
+use Rattle.numbers.specs.Names.{letter_digit_dot, every}
+use Rattle.numbers.proofs.Naming.{good-by-rest}
 use Rattle.numbers.proofs.name.is_good_name.Goals as goal
 
-pub returns-then-not-is_name_byte : goal.returns-then-not-is_name_byte
-returns-then-not-is_name_byte c =
-    sym (good-not-rest c.args.text.now (c.loop-i.invariant ∙ every-step letter_digit_dot c.args.text.now c.loop-i.i false c.loop-i-test.true c.if-not-is_name_byte.ensures))
-
-pub loop-i-preserved : goal.loop-i-preserved
-loop-i-preserved c = c.loop-i.invariant ∙ every-step letter_digit_dot c.args.text.now c.loop-i.i true c.loop-i-test.true c.if-not-is_name_byte.ensures
-
-pub returns : goal.returns
-returns c =
-    sym
-    (good-name c.args.text.now (omega arith) (omega arith) (sym c.if-not-is_letter.ensures)
-    (c.loop-i.invariant ∙ every-end letter_digit_dot c.args.text.now c.loop-i.i (omega arith)))
+pub returns-in-len1-up : goal.returns-in-len1-up
+returns-in-len1-up c =
+    let r : c.iter.result.rest.now ≡ drop 1 c.args.text.now = c.iter.ensures.rest ∙ take_all (length c.args.text.now - 1) (drop 1 c.args.text.now) (omega (arith, length-drop 1 c.args.text.now)) in
+    let p : c.all.result ≡ every letter_digit_dot (drop 1 c.args.text.now) =
+    all_from_yields_List letter_digit_dot _ _ c.all.result c.all.ensures.ran (YieldsList-from_slice (drop 1 c.args.text.now) r) (λ x b q k. search (rules, tests)) in
+    p ∙ good-by-rest c.args.text.now (omega arith) (sym c.if-is_letter.ensures) (omega arith)

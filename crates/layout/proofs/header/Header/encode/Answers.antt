@@ -11,9 +11,9 @@ pub returns : goal.returns
 returns c =
     let h = c.args.self.now in
     let lt : length h.tables ≡ 12 = omega arith in
-    header-written c.args.sector.now c.put.new.sector c.put_name.new.sector c.put-2.new.sector c.put-3.new.sector c.put-4.new.sector
-    c.put_addresses.new.sector c.put_addresses-2.new.sector h.name.bytes (last_sector h.length.0) (last_bytes h.length.0) h.date (numbers h.tables) (numbers h.sectors)
-    c.put_name.ensures.long (length-map h.tables (λ (a : Address). a.0) ∙ lt) c.put.ensures c.put_name.ensures.after
-    (c.put-2.ensures ∙ ap (λ (n : ℕ). written c.put_name.new.sector 36 (stored n)) c.last_sector.ensures)
-    (c.put-3.ensures ∙ ap (λ (n : ℕ). written c.put-2.new.sector 40 (stored n)) c.last_bytes.ensures)
-    c.put-4.ensures c.put_addresses.ensures c.put_addresses-2.ensures
+    header-written c.args.sector.now c.store.new.sector c.store-2.new.sector c.store-3.new.sector c.store-4.new.sector c.store-5.new.sector
+    c.store-6.new.sector c.store-7.new.sector h.name.bytes (last_sector h.length.0) (last_bytes h.length.0) h.date (numbers h.tables) (numbers h.sectors)
+    c.store-2.ensures.long (length-map h.tables (λ (a : Address). a.0) ∙ lt) c.store.ensures.after c.store-2.ensures.after
+    (c.store-3.ensures.after ∙ ap (λ (n : ℕ). written c.store-2.new.sector 36 (stored n)) c.last_sector.ensures)
+    (c.store-4.ensures.after ∙ ap (λ (n : ℕ). written c.store-3.new.sector 40 (stored n)) c.last_bytes.ensures)
+    c.store-5.ensures.after c.store-6.ensures.after c.store-7.ensures.after

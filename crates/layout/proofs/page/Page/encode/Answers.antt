@@ -13,7 +13,7 @@ unfolding blank
 returns c =
     let n = length-take-le c.args.self.now.count c.args.self.now.entries (omega (arith, c.args.self.now.few, c.args.self.now.long)) in (
       omega (arith, n),
-      page-written c.put.new.sector c.put-2.new.sector c.put-3.new.sector c.put_entries.new.sector _ _ (all_entry_bytes (take c.args.self.now.count c.args.self.now.entries)) c.put.ensures
-          (c.put-2.ensures ∙ ap (λ (k : ℕ). written c.put.new.sector 4 (stored k)) (sym n))
-          (c.put-3.ensures ∙ ap (λ (k : ℕ). written c.put-2.new.sector 8 (stored k)) c.link_address.ensures) c.put_entries.ensures,
+      page-written c.store.new.sector c.store-2.new.sector c.store-3.new.sector c.put_entries.new.sector _ _ (all_entry_bytes (take c.args.self.now.count c.args.self.now.entries)) c.store.ensures.after
+          (c.store-2.ensures.after ∙ ap (λ (k : ℕ). written c.store.new.sector 4 (stored k)) (sym n))
+          (c.store-3.ensures.after ∙ ap (λ (k : ℕ). written c.store-2.new.sector 8 (stored k)) c.from.ensures) c.put_entries.ensures,
     )

@@ -1,7 +1,8 @@
-use Rattle.std.proofs.Common.{◌≡◌, ℕ, take, sym, refl, ap, ◌∙◌, arith}
+use Rattle.std.proofs.Common.{◌≡◌, ℕ, ◌+◌, ◌*◌, length, take, sym, refl, ap, ◌∙◌, arith}
 use Rattle.std.proofs.lemmas.List.{get_or_default}
 use Rattle.layout.specs.Words.{written}
-use Rattle.layout.specs.Entries.{entries_at, all_entry_bytes}
+use Rattle.layout.specs.Entries.{entries_at, stored_entry_bytes, all_entry_bytes}
+use Rattle.layout.specs.declared.entry.StoredEntry.{StoredEntry}
 use Rattle.layout.proofs.Writing.{written_none}
 use Rattle.layout.proofs.Paging.{put-entry-more}
 use Rattle.layout.proofs.page.Page.put_entries.Goals as goal
@@ -11,8 +12,9 @@ loop-i-init c = (sym (written_none c.args.sector.now entries_at), refl)
 
 pub loop-i-preserved : goal.loop-i-preserved
 loop-i-preserved c =
-    put-entry-more c.args.sector.now c.loop-i.sector c.put_entry.new.sector c.args.self.now.entries c.loop-i.i _ (omega arith) (get_or_default c.args.self.now.entries c.loop-i.i _ _ (omega arith)) (omega arith)
-    c.put_entry.ensures.long c.put_entry.ensures.after c.loop-i.invariant
+    put-entry-more c.args.sector.now c.loop-i.sector c.store.new.sector c.args.self.now.entries c.loop-i.i _ (omega arith) (get_or_default c.args.self.now.entries c.loop-i.i _ _ (omega arith)) (omega arith)
+    (sym (ap (λ (s : StoredEntry). length (stored_entry_bytes s)) c.from.ensures) ∙ c.store.ensures.long)
+    (c.store.ensures.after ∙ ap (λ (s : StoredEntry). written c.loop-i.sector (64 + 40 * c.loop-i.i) (stored_entry_bytes s)) c.from.ensures) c.loop-i.invariant
 
 pub returns : goal.returns
 returns c =

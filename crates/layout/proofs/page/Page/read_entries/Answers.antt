@@ -19,12 +19,12 @@ pub returns-in_err-entry : goal.returns-in_err-entry
 returns-in_err-entry c =
     let p = err_from_is_err_and c.from_residual.result c.from_residual.ensures.1 in
     rw (p.1, p.2)
-    (row-refused c.args.size c.args.leaf c.args.sector.now c.args.count c.loop-i.i (omega arith) _ _ _ (c.in_err-entry.ensures ∙ ap (check_entry c.args.size c.args.leaf) c.get_entry.ensures) c.loop-i.invariant.0)
+    (row-refused c.args.size c.args.leaf c.args.sector.now c.args.count c.loop-i.i (omega arith) _ _ _ (c.in_err-entry.ensures ∙ ap (check_entry c.args.size c.args.leaf) c.load.ensures) c.loop-i.invariant.0)
 
 pub loop-i-preserved : goal.loop-i-preserved
 loop-i-preserved c = (
   row_read c.args.size c.args.leaf c.args.sector.now c.args.count c.loop-i.i (omega arith) _ _ _ c.in_ok-entry.entry
-      (c.in_ok-entry.ensures ∙ ap (check_entry c.args.size c.args.leaf) c.get_entry.ensures) c.add.ensures.0 c.loop-i.invariant.0,
+      (c.in_ok-entry.ensures ∙ ap (check_entry c.args.size c.args.leaf) c.load.ensures) c.add.ensures.0 c.loop-i.invariant.0,
   omega (arith, c.add.ensures.2, c.loop-i.invariant.1),
   c.add.ensures.1 ∙ c.loop-i.invariant.2,
 )
