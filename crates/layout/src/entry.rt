@@ -24,9 +24,9 @@ const ZEROS_AT: usize = 12;
 pub(crate) const ENTRIES_AT: usize = 64;
 
 // The most entries that a page stores, and the fewest of one that is not the root.
-pub(crate) const MOST_ENTRIES: usize = 24;
+pub const MOST_ENTRIES: usize = 24;
 
-const LEAST_ENTRIES: u32 = 12;
+pub const LEAST_ENTRIES: usize = 12;
 
 // An entry's bytes, and where its addresses stand behind the name.
 pub(crate) const ENTRY_SIZE: usize = 40;
@@ -36,7 +36,7 @@ const FILE_AT: usize = 32;
 const BELOW_AT: usize = 36;
 
 // An entry of a directory page: a name, the first sector of its file, and the page of the names above it and below the next entry; a leaf has none.
-#[derive(Clone, Copy)]
+#[derive(Clone, Copy, Default)]
 pub struct Entry {
     pub name: Name,
     pub file: Sector,
@@ -127,7 +127,7 @@ impl PageHead {
         let (least, fault) = match kind {
             PageKind::Root if leaf => (0, PageFault::RootCount),
             PageKind::Root => (1, PageFault::ParentCount),
-            PageKind::Other => (LEAST_ENTRIES, PageFault::OtherCount),
+            PageKind::Other => (LEAST_ENTRIES as u32, PageFault::OtherCount),
         };
         if self.count < least || self.count > MOST_ENTRIES as u32 {
             return Err(fault);

@@ -6,7 +6,7 @@ ghost use Rattle.numbers.specs.Order.{cmp};
 use std::cmp::Ordering;
 
 // A name as it is stored: its bytes, zero-filled to 32.
-#[derive(Clone, Copy)]
+#[derive(Clone, Copy, Default)]
 pub struct Name {
     pub bytes: [u8; 32],
 }

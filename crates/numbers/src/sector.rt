@@ -3,7 +3,7 @@ ghost use Rattle.std.specs.Prelude.{◌≡◌, Bool, true, false, ◌==◌};
 ghost use Rattle.numbers.specs.Sectors.{address, sector_at, as_due};
 
 // The number of a sector. A disk has at most 16,384 sectors.
-#[derive(Clone, Copy, PartialEq, Eq)]
+#[derive(Clone, Copy, PartialEq, Eq, Default)]
 pub struct Sector(pub u16);
 
 // A sector's number as it is stored: 29 times the number, and 0 for none.

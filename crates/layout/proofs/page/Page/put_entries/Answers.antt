@@ -1,7 +1,6 @@
-use Rattle.std.proofs.Common.{◌≡◌, ℕ, take, sym, refl, ap, ◌∙◌, arith}
+use Rattle.std.proofs.Common.{sym, refl, arith}
 use Rattle.std.proofs.lemmas.List.{get_or_default}
-use Rattle.layout.specs.Words.{written}
-use Rattle.layout.specs.Entries.{entries_at, all_entry_bytes}
+use Rattle.layout.specs.Entries.{entries_at}
 use Rattle.layout.proofs.Writing.{written_none}
 use Rattle.layout.proofs.Paging.{put-entry-more}
 use Rattle.layout.proofs.page.Page.put_entries.Goals as goal
@@ -11,10 +10,6 @@ loop-i-init c = (sym (written_none c.args.sector.now entries_at), refl)
 
 pub loop-i-preserved : goal.loop-i-preserved
 loop-i-preserved c =
-    put-entry-more c.args.sector.now c.loop-i.sector c.put_entry.new.sector c.args.self.now.entries c.loop-i.i _ (omega arith) (get_or_default c.args.self.now.entries c.loop-i.i _ _ (omega arith)) (omega arith)
+    let es = c.deref-entry-items.result.now in
+    put-entry-more c.args.sector.now c.loop-i.sector c.put_entry.new.sector es c.loop-i.i _ (omega arith) (get_or_default es c.loop-i.i _ _ (omega arith)) (omega arith)
     c.put_entry.ensures.long c.put_entry.ensures.after c.loop-i.invariant
-
-pub returns : goal.returns
-returns c =
-    let e : c.loop-i.i ≡ c.args.self.now.count = omega arith in
-    c.loop-i.invariant.0 ∙ ap (λ (n : ℕ). written c.args.sector.now entries_at (all_entry_bytes (take n c.args.self.now.entries))) e
