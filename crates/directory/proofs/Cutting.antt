@@ -5,53 +5,54 @@ use Rattle.std.proofs.lemmas.Bool.{eq-eqb, ne_eqb, ltb-true, ltb-false, lt-ltb, 
 use Rattle.numbers.specs.declared.sector.Sector.{Sector}
 use Rattle.layout.specs.declared.entry.Entry.{Entry}
 use Rattle.layout.specs.Pages.{PageData}
+use Rattle.directory.specs.declared.share.Neighbours.{Neighbours}
 use Rattle.directory.specs.Lines.{over, line, Cut, Shared, uneven, lent, share, LineLaws}
 
-long-line : (p : PageData) (e : Entry) (q : PageData) → length (line p e q) ≡ length p.rows + length q.rows + 1
-long-line p e q = length-append p.rows (over e q.first ∷ q.rows) ∙ omega arith
+long-line : (n : Neighbours) → length (line n) ≡ length n.left.rows + length n.right.rows + 1
+long-line n = length-append n.left.rows (over n.middle n.right.first ∷ n.right.rows) ∙ omega arith
 
-module _ (m : ℕ) (f : Option Sector) (all : List Entry) (p : PageData) (e : Entry) (q : PageData) (c : Cut m f all p e q) where
-  rows : p.rows ≡ take m all
+module _ (m : ℕ) (f : Option Sector) (all : List Entry) (n : Neighbours) (c : Cut m f all n) where
+  rows : n.left.rows ≡ take m all
   rows = ap (λ (x : PageData). x.rows) c.before
 
-  whole : line p e q ≡ all
+  whole : line n ≡ all
   whole = ap₂ ◌++◌ rows c.after ∙ take-append-drop m all
 
-  sizes : (length p.rows ≡ m) × (m + 1 + length q.rows ≡ length all)
+  sizes : (length n.left.rows ≡ m) × (m + 1 + length n.right.rows ≡ length all)
   sizes =
       let l = ap length rows ∙ length-take m all in
-      let r : suc (length q.rows) ≡ length all - m = ap length c.after ∙ length-drop m all in
+      let r : suc (length n.right.rows) ≡ length all - m = ap length c.after ∙ length-drop m all in
       (omega arith, omega arith)
 
-only : (m : ℕ) (f : Option Sector) (all : List Entry) (p : PageData) (e : Entry) (q p' : PageData) (e' : Entry) (q' : PageData) → Cut m f all p e q → Cut m f all p' e' q' → (p ≡ p') × (e.name ≡ e'.name) × (e.file ≡ e'.file) × (q ≡ q')
-only m f all p e q p' e' q' c d =
-    let h : over e q.first ∷ q.rows ≡ over e' q'.first ∷ q'.rows = c.after ∙ sym d.after in
-    let a : over e q.first ≡ over e' q'.first = cc in
-    let b : q.rows ≡ q'.rows = cc in
+only : (m : ℕ) (f : Option Sector) (all : List Entry) (n n' : Neighbours) → Cut m f all n → Cut m f all n' → (n.left ≡ n'.left) × (n.middle.name ≡ n'.middle.name) × (n.middle.file ≡ n'.middle.file) × (n.right ≡ n'.right)
+only m f all n n' c d =
+    let h : over n.middle n.right.first ∷ n.right.rows ≡ over n'.middle n'.right.first ∷ n'.right.rows = c.after ∙ sym d.after in
+    let a : over n.middle n.right.first ≡ over n'.middle n'.right.first = cc in
+    let b : n.right.rows ≡ n'.right.rows = cc in
     (c.before ∙ sym d.before, ap (λ (x : Entry). x.name) a, ap (λ (x : Entry). x.file) a, λ j. record { first = (a j).below; rows = b j })
 
-module _ (p : PageData) (e : Entry) (q p' : PageData) (e' : Entry) (q' : PageData) (s : Shared (share (length p.rows) (length q.rows)) p e q p' e' q') where
-  counts : (length p'.rows ≡ share (length p.rows) (length q.rows)) × (length p'.rows + length q'.rows ≡ length p.rows + length q.rows)
+module _ (n n' : Neighbours) (s : Shared (share (length n.left.rows) (length n.right.rows)) n n') where
+  counts : (length n'.left.rows ≡ share (length n.left.rows) (length n.right.rows)) × (length n'.left.rows + length n'.right.rows ≡ length n.left.rows + length n.right.rows)
   counts =
-      let n = sizes (share (length p.rows) (length q.rows)) p.first (line p e q) p' e' q' s.cut in
-      let l = long-line p e q in
-      (n.0, omega (arith, n.0, n.1))
+      let k = sizes (share (length n.left.rows) (length n.right.rows)) n.left.first (line n) n' s.cut in
+      let l = long-line n in
+      (k.0, omega (arith, k.0, k.1))
 
-  from_right : length p.rows ≡ 11 → 12 < length q.rows → (length p'.rows ≡ 11 + lent (length q.rows)) × (length q'.rows ≡ length q.rows - lent (length q.rows))
+  from_right : length n.left.rows ≡ 11 → 12 < length n.right.rows → (length n'.left.rows ≡ 11 + lent (length n.right.rows)) × (length n'.right.rows ≡ length n.right.rows - lent (length n.right.rows))
   from_right a b =
-      let is : share (length p.rows) (length q.rows) ≡ length p.rows + lent (length q.rows) =
-      ap (λ (t : Bool). cond t (length p.rows + lent (length q.rows)) (length p.rows - lent (length p.rows))) (lt-ltb (length p.rows) (length q.rows) (omega arith)) in
-      let n = counts in
-      let i = n.0 ∙ is in
-      (omega (arith, i), omega (arith, i, n.1))
+      let is : share (length n.left.rows) (length n.right.rows) ≡ length n.left.rows + lent (length n.right.rows) =
+      ap (λ (t : Bool). cond t (length n.left.rows + lent (length n.right.rows)) (length n.left.rows - lent (length n.left.rows))) (lt-ltb (length n.left.rows) (length n.right.rows) (omega arith)) in
+      let k = counts in
+      let i = k.0 ∙ is in
+      (omega (arith, i), omega (arith, i, k.1))
 
-  from_left : 12 < length p.rows → length q.rows ≡ 11 → (length p'.rows ≡ length p.rows - lent (length p.rows)) × (length q'.rows ≡ 11 + lent (length p.rows))
+  from_left : 12 < length n.left.rows → length n.right.rows ≡ 11 → (length n'.left.rows ≡ length n.left.rows - lent (length n.left.rows)) × (length n'.right.rows ≡ 11 + lent (length n.left.rows))
   from_left a b =
-      let is : share (length p.rows) (length q.rows) ≡ length p.rows - lent (length p.rows) =
-      ap (λ (t : Bool). cond t (length p.rows + lent (length q.rows)) (length p.rows - lent (length p.rows))) (le-ltb (length p.rows) (length q.rows) (omega arith)) in
-      let n = counts in
-      let i = n.0 ∙ is in
-      (omega (arith, i), omega (arith, i, n.1))
+      let is : share (length n.left.rows) (length n.right.rows) ≡ length n.left.rows - lent (length n.left.rows) =
+      ap (λ (t : Bool). cond t (length n.left.rows + lent (length n.right.rows)) (length n.left.rows - lent (length n.left.rows))) (le-ltb (length n.left.rows) (length n.right.rows) (omega arith)) in
+      let k = counts in
+      let i = k.0 ∙ is in
+      (omega (arith, i), omega (arith, i, k.1))
 
 -- more than 12 beside 11 are more than 24 with the entry between them
 beyond : (b n : ℕ) → n ≡ b + 12 → (t : Bool) → ltb 12 b ≡ t → ltb 24 n ≡ t
@@ -66,18 +67,18 @@ and-all : (t : Bool) → (t && true) ≡ t
 and-all true = refl
 and-all false = refl
 
-module _ (p : PageData) (e : Entry) (q : PageData) where
-  on_right : length p.rows ≡ 11 → 12 ≤ length q.rows → uneven p q ≡ ltb 24 (length (line p e q))
+module _ (n : Neighbours) where
+  on_right : length n.left.rows ≡ 11 → 12 ≤ length n.right.rows → uneven n ≡ ltb 24 (length (line n))
   on_right h l =
-      let b = length q.rows in
-      let n = long-line p e q in
-      ap₂ (λ (x y : Bool). (x && ltb 12 b) || (y && eqb b 11)) (eq-eqb (length p.rows) 11 h) (le-ltb 12 (length p.rows) (omega arith)) ∙ or-none (ltb 12 b) ∙ sym (beyond b (length (line p e q)) (omega arith) (ltb 12 b) refl)
+      let b = length n.right.rows in
+      let k = long-line n in
+      ap₂ (λ (x y : Bool). (x && ltb 12 b) || (y && eqb b 11)) (eq-eqb (length n.left.rows) 11 h) (le-ltb 12 (length n.left.rows) (omega arith)) ∙ or-none (ltb 12 b) ∙ sym (beyond b (length (line n)) (omega arith) (ltb 12 b) refl)
 
-  on_left : 12 ≤ length p.rows → length q.rows ≡ 11 → uneven p q ≡ ltb 24 (length (line p e q))
+  on_left : 12 ≤ length n.left.rows → length n.right.rows ≡ 11 → uneven n ≡ ltb 24 (length (line n))
   on_left l h =
-      let a = length p.rows in
-      let n = long-line p e q in
-      ap₂ (λ (x y : Bool). (x && ltb 12 (length q.rows)) || (ltb 12 a && y)) (ne_eqb a 11 (λ k. omega arith)) (eq-eqb (length q.rows) 11 h) ∙ and-all (ltb 12 a) ∙ sym (beyond a (length (line p e q)) (omega arith) (ltb 12 a) refl)
+      let a = length n.left.rows in
+      let k = long-line n in
+      ap₂ (λ (x y : Bool). (x && ltb 12 (length n.right.rows)) || (ltb 12 a && y)) (ne_eqb a 11 (λ k. omega arith)) (eq-eqb (length n.right.rows) 11 h) ∙ and-all (ltb 12 a) ∙ sym (beyond a (length (line n)) (omega arith) (ltb 12 a) refl)
 
 pub line-laws : LineLaws
 line-laws =
@@ -85,11 +86,11 @@ line-laws =
       whole = whole;
       sizes = sizes;
       only = only;
-      from_right = λ p e q p' e' q' a b s. from_right p e q p' e' q' s a b;
-      from_left = λ p e q p' e' q' a b s. from_left p e q p' e' q' s a b;
+      from_right = λ n n' a b s. from_right n n' s a b;
+      from_left = λ n n' a b s. from_left n n' s a b;
       of13 = (refl, refl);
       of24 = (refl, refl);
-      together = λ p e q h. long-line p e q ∙ omega arith;
+      together = λ n h. long-line n ∙ omega arith;
       on_right = on_right;
       on_left = on_left;
     }

@@ -8,6 +8,7 @@ use Rattle.layout.specs.Pages.{PageData}
 use Rattle.tree.specs.Tree as tree
 use Rattle.tree.specs.Insert.{one, two, halves, cut}
 use Rattle.tree.specs.Delete.{share}
+use Rattle.directory.specs.declared.share.Neighbours.{Neighbours}
 use Rattle.directory.specs.Lines.{over, line, Cut}
 use Rattle.directory.specs.Trees.{pair, items, tree_page, TreeLaws}
 
@@ -33,32 +34,37 @@ items-drop (suc m) [] = refl
 items-drop (suc m) (e ∷ es) = items-drop m es
 
 -- a cut of rows is the tree's cut
-cut-is : (m : ℕ) (f : Option Sector) (all : List Entry) (p : PageData) (e : Entry) (q : PageData) → Cut m f all p e q → cut m f (items all) ≡ two (tree_page p) (pair e) (tree_page q)
-cut-is m f all p e q c =
+cut-is : (m : ℕ) (f : Option Sector) (all : List Entry) (n : Neighbours) → Cut m f all n → cut m f (items all) ≡ two (tree_page n.left) (pair n.middle) (tree_page n.right)
+cut-is m f all n c =
     let front = sym (items-take m all) in
     let back = sym (items-drop m all) ∙ ap items (sym c.after) in
-    ap₂ (λ (l r : Items). halves f l r) front back ∙ ap (λ (t : PageData). two (tree_page t) (pair e) (tree_page q)) (sym c.before)
+    ap₂ (λ (l r : Items). halves f l r) front back ∙ ap (λ (t : PageData). two (tree_page t) (pair n.middle) (tree_page n.right)) (sym c.before)
 
-line-items : (p : PageData) (e : Entry) (q : PageData) → items (line p e q) ≡ items p.rows ++ (tree.item (pair e) q.first ∷ items q.rows)
-line-items p e q = items-append p.rows (over e q.first ∷ q.rows)
+line-items : (n : Neighbours) → items (line n) ≡ items n.left.rows ++ (tree.item (pair n.middle) n.right.first ∷ items n.right.rows)
+line-items n = items-append n.left.rows (over n.middle n.right.first ∷ n.right.rows)
 
 pub tree_laws : TreeLaws
 tree_laws = record {
-  splits = λ p p' e q long c.
+  splits = λ p n long c.
       let l = items-length p.rows in
-      ap (λ (b : Bool). cond b (one (tree_page p)) (cut 12 p.first (items p.rows))) (lt-leb (length (items p.rows)) 24 (omega arith)) ∙ cut-is 12 p.first p.rows p' e q c;
-  evens = λ p e q p' e' q' long s.
-      let all = items p.rows ++ (tree.item (pair e) q.first ∷ items q.rows) in
-      let is = line-items p e q in
-      let l = ap length (sym is) ∙ items-length (line p e q) in
-      let m = ap₂ share (items-length p.rows) (items-length q.rows) in
-      ap (λ (b : Bool). cond b (one (tree.page p.first all)) (cut (share (length (items p.rows)) (length (items q.rows))) p.first all)) (lt-leb (length all) 24 (omega arith))
-      ∙ (ap₂ (λ (k : ℕ) (xs : Items). cut k p.first xs) m (sym is)
-      ∙ cut-is (share (length p.rows) (length q.rows)) p.first (line p e q) p' e' q' s.cut);
-  joins = λ p e q few.
-      let all = items p.rows ++ (tree.item (pair e) q.first ∷ items q.rows) in
-      let is = line-items p e q in
-      let l = ap length (sym is) ∙ items-length (line p e q) in
-      ap (λ (b : Bool). cond b (one (tree.page p.first all)) (cut (share (length (items p.rows)) (length (items q.rows))) p.first all)) (le-leb (length all) 24 (omega arith))
-      ∙ ap (λ (xs : Items). one (tree.page p.first xs)) (sym is);
+      ap (λ (b : Bool). cond b (one (tree_page p)) (cut 12 p.first (items p.rows))) (lt-leb (length (items p.rows)) 24 (omega arith)) ∙ cut-is 12 p.first p.rows n c;
+  evens = λ n n' long s.
+      let xs = items n.left.rows in
+      let ys = items n.right.rows in
+      let f = n.left.first in
+      let all = xs ++ (tree.item (pair n.middle) n.right.first ∷ ys) in
+      let is = line-items n in
+      let l = ap length (sym is) ∙ items-length (line n) in
+      let m = ap₂ share (items-length n.left.rows) (items-length n.right.rows) in
+      ap (λ (b : Bool). cond b (one (tree.page f all)) (cut (share (length xs) (length ys)) f all)) (lt-leb (length all) 24 (omega arith))
+      ∙ (ap₂ (λ (k : ℕ) (zs : Items). cut k f zs) m (sym is) ∙ cut-is (share (length n.left.rows) (length n.right.rows)) f (line n) n' s.cut);
+  joins = λ n few.
+      let xs = items n.left.rows in
+      let ys = items n.right.rows in
+      let f = n.left.first in
+      let all = xs ++ (tree.item (pair n.middle) n.right.first ∷ ys) in
+      let is = line-items n in
+      let l = ap length (sym is) ∙ items-length (line n) in
+      ap (λ (b : Bool). cond b (one (tree.page f all)) (cut (share (length xs) (length ys)) f all)) (le-leb (length all) 24 (omega arith))
+      ∙ ap (λ (zs : Items). one (tree.page f zs)) (sym is);
 }

@@ -9,6 +9,7 @@ use Rattle.tree.specs.Tree as tree
 use Rattle.tree.specs.Insert.{one, two, fit}
 use Rattle.tree.specs.Delete.{even, share}
 use Rattle.directory.specs.Rows.{most_held}
+use Rattle.directory.specs.declared.share.Neighbours.{Neighbours}
 use Rattle.directory.specs.Lines.{line, joined, Cut, Shared}
 
 -- an entry as the tree has it: its name, and the number of its file's first sector
@@ -25,8 +26,8 @@ tree_page p = tree.page p.first (items p.rows)
 
 -- a page of 25 that is split is what the tree's insert makes of it; two neighbours that are evened out or joined are what its delete does
 pub record TreeLaws : Type 0 where
-  pub splits : (p p' : PageData) (e : Entry) (q : PageData) → length p.rows ≡ most_held → Cut least_entries p.first p.rows p' e q →
-      fit (tree_page p) ≡ two (tree_page p') (pair e) (tree_page q)
-  pub evens : (p : PageData) (e : Entry) (q p' : PageData) (e' : Entry) (q' : PageData) → most_entries < length (line p e q) →
-      Shared (share (length p.rows) (length q.rows)) p e q p' e' q' → even (tree_page p) (pair e) (tree_page q) ≡ two (tree_page p') (pair e') (tree_page q')
-  pub joins : (p : PageData) (e : Entry) (q : PageData) → length (line p e q) ≤ most_entries → even (tree_page p) (pair e) (tree_page q) ≡ one (tree_page (joined p e q))
+  pub splits : (p : PageData) (n : Neighbours) → length p.rows ≡ most_held → Cut least_entries p.first p.rows n →
+      fit (tree_page p) ≡ two (tree_page n.left) (pair n.middle) (tree_page n.right)
+  pub evens : (n n' : Neighbours) → most_entries < length (line n) → Shared (share (length n.left.rows) (length n.right.rows)) n n' →
+      even (tree_page n.left) (pair n.middle) (tree_page n.right) ≡ two (tree_page n'.left) (pair n'.middle) (tree_page n'.right)
+  pub joins : (n : Neighbours) → length (line n) ≤ most_entries → even (tree_page n.left) (pair n.middle) (tree_page n.right) ≡ one (tree_page (joined n))

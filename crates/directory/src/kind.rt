@@ -1,12 +1,19 @@
-// The answers of page editing.
+// The refusal of page editing.
+ghost use Rattle.std.specs.Prelude.{codes, Some};
 
-// Where a name stands in a page: it is that of entry `i`, or it is none's and `i` entries are below it.
-#[derive(Clone, Copy)]
-pub enum Place {
-    At(usize),
-    Between(usize),
-}
+use std::error::Error;
+use std::fmt;
 
 // The page or the two neighbours have not the entries that the edit asks for. Nothing was changed.
-#[derive(Clone, Copy)]
+#[derive(Clone, Copy, Debug, PartialEq, Eq)]
 pub struct Misfit;
+
+impl fmt::Display for Misfit {
+    ghost output = { λ _. Some (codes "the entries do not fit") };
+
+    fn fmt<W: fmt::Write>(&self, f: &mut fmt::Formatter<W>) -> fmt::Result {
+        f.write_str("the entries do not fit")
+    }
+}
+
+impl Error for Misfit {}

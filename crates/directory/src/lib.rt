@@ -4,6 +4,5 @@
 pub mod edit;
 pub mod kind;
 pub mod laws;
-mod part;
 pub mod place;
 pub mod share;

@@ -1,22 +1,29 @@
 // Where a name stands in a page.
-ghost use Rattle.directory.specs.Places.{Stands};
-ghost use Rattle.layout.specs.Pages.{data_of};
+ghost use Rattle.std.specs.Prelude.{◌≡◌};
+ghost use Rattle.std.specs.List.{position};
+ghost use Rattle.directory.specs.Places.{Stands, reaches};
 
-use crate::kind::Place;
+use layout::entry::Entry;
 use layout::page::Page;
 use numbers::name::Name;
-use std::cmp::Ordering;
 
-// The place of a name in a page whose names rise: the first entry that is not below it is looked for.
-pub fn find(page: &Page, name: &Name) -> Place
-    ensures { Stands name.now.bytes (data_of page.now).rows result }
+// The place of a name in a page whose names rise, as a binary search answers: it is that of entry `i`, or it is none's and `i` entries are below it.
+pub fn find(page: &Page, name: &Name) -> Result<usize, usize>
+    ensures { Stands name.now.bytes page.now.rows result }
 {
-    for i in 0..page.count {
-        match name.compare(&page.entries[i].name) {
-            Ordering::Less => return Place::Between(i),
-            Ordering::Equal => return Place::At(i),
-            Ordering::Greater => {}
-        }
+    let entries = page.entries.as_slice();
+    match first_reached(entries, name) {
+        Some(i) if name.compare(&entries[i].name).is_eq() => Ok(i),
+        Some(i) => Err(i),
+        None => Err(entries.len()),
     }
-    Place::Between(page.count)
+}
+
+// The first entry that is not below the name.
+fn first_reached(entries: &[Entry], name: &Name) -> Option<usize>
+    ensures { result ≡ position (reaches name.now.bytes) entries.now }
+{
+    entries
+        .iter()
+        .position(|entry| name.compare(&entry.name).is_le())
 }

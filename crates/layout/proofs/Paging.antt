@@ -53,10 +53,6 @@ onto-more : (xs : List Entry) (e : Entry) (r : Result (List Entry) PageFault) �
 onto-more xs e (Ok ys) = ap (λ (t : List Entry). Ok t) (sym (append_assoc xs (e ∷ []) ys))
 onto-more xs e (Err f) = refl
 
-pub onto-none : (r : Result (List Entry) PageFault) → r ≡ onto [] r
-onto-none (Ok ys) = refl
-onto-none (Err f) = refl
-
 module _ (size : ℕ) (leaf : Bool) (c : Contents) (m i : ℕ) (l : i < m) where
   split_rows : rows_in size leaf c i (m - i) ≡ prepend (check_entry size leaf (stored_in c i)) (rows_in size leaf c (i + 1) (m - (i + 1)))
   split_rows =
@@ -71,8 +67,3 @@ module _ (size : ℕ) (leaf : Bool) (c : Contents) (m i : ℕ) (l : i < m) where
 
   pub row-refused : (all : Result (List Entry) PageFault) (xs : List Entry) (f : PageFault) → Err f ≡ check_entry size leaf (stored_in c i) → all ≡ onto xs (rows_in size leaf c i (m - i)) → all ≡ Err f
   row-refused all xs f h inv = inv ∙ ap (onto xs) (split_rows ∙ ap (λ (r : Result Entry PageFault). prepend r (rows_in size leaf c (i + 1) (m - (i + 1)))) (sym h))
-
-pub rows-read : (size : ℕ) (leaf : Bool) (c : Contents) (m i : ℕ) (all : Result (List Entry) PageFault) (xs : List Entry) → m ≤ i → all ≡ onto xs (rows_in size leaf c i (m - i)) → all ≡ Ok xs
-rows-read size leaf c m i all xs h inv =
-    let n : m - i ≡ 0 = omega arith in
-    inv ∙ ap (λ (k : ℕ). onto xs (rows_in size leaf c i k)) n ∙ ap (λ (t : List Entry). Ok t) (append-nil xs)

@@ -1,5 +1,5 @@
 -- Directory pages.
-use Rattle.std.specs.Prelude.{◌≡◌, ℕ, zero, suc, ◌-◌, ◌^◌, ◌<◌, ◌≤◌, Bool, true, false, cond, not, List, [], ◌∷◌, ◌++◌, length, take, replicate, Some, None, Ok, Err, Option, Result}
+use Rattle.std.specs.Prelude.{◌≡◌, ℕ, zero, suc, ◌-◌, ◌^◌, ◌<◌, ◌≤◌, Bool, true, false, cond, not, List, [], ◌∷◌, ◌++◌, length, replicate, Some, None, Ok, Err, Option, Result}
 use Rattle.std.specs.List.{AllByRecursion}
 use Rattle.numbers.specs.declared.sector.Sector.{Sector}
 use Rattle.layout.specs.declared.entry.Entry.{Entry}
@@ -7,7 +7,6 @@ use Rattle.layout.specs.declared.entry.PageHead.{PageHead}
 use Rattle.layout.specs.declared.entry.PageKind.{PageKind}
 use Rattle.layout.specs.declared.entry.PageFault.{PageFault}
 use Rattle.layout.specs.declared.entry.PageFault.TheVariants.{BadLink}
-use Rattle.layout.specs.declared.page.Page.{Page}
 use Rattle.layout.specs.Words.{Contents, Bytes, sector_size, blank, stored, written}
 use Rattle.numbers.specs.Sectors.{first_linked, sector_at, as_due}
 use Rattle.numbers.specs.Names.{is_name_field}
@@ -17,9 +16,6 @@ use Rattle.layout.specs.Entries.{page_mark, zeros_at, entries_at, head_in, is_le
 pub record PageData : Type 0 where
   pub first : Option Sector
   pub rows : List Entry
-
-abbrev pub data_of : Page → PageData
-data_of p = record { first = p.first; rows = take p.count p.entries }
 
 -- the bytes of a page up to its last entry
 abbrev pub page_front : PageData → List ℕ
@@ -53,11 +49,6 @@ with_head kind size c (Ok h) =
 
 abbrev pub page_in : PageKind → ℕ → Contents → Result PageData PageFault
 page_in kind size c = with_head kind size c (head_in c)
-
--- the answer of a decoder, by what the page holds
-abbrev pub shown : Result Page PageFault → Result PageData PageFault
-shown (Ok p) = Ok (data_of p)
-shown (Err f) = Err f
 
 -- a leaf has no page below; another page has one at p0 and at each entry
 abbrev pub no_page : Option Sector → Bool

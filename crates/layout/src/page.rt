@@ -1,16 +1,26 @@
 // The directory page as the program holds it.
-ghost use Rattle.std.specs.Prelude.{◌≡◌, ◌≤◌, length};
-
-use crate::entry::Entry;
+use crate::entry::{Entry, MOST_ENTRIES};
+use arrayvec::ArrayVec;
 use numbers::sector::Sector;
+use std::marker::Model;
+
+// The most entries that a page holds: while it is edited, one more than it stores.
+pub const MOST_HELD: usize = MOST_ENTRIES + 1;
 
 // A directory page: the page of the names below its first entry, unless it is a leaf, and its entries.
-// It stores at most 24 entries, and holds one more while it is edited; those from `count` on are not used.
-#[derive(Clone, Copy)]
+#[derive(Clone, Drop)]
 pub struct Page {
     pub first: Option<Sector>,
-    pub count: usize,
-    pub entries: [Entry; 25],
-    ghost few: { count ≤ 25 },
-    ghost long: { length entries ≡ 25 },
+    pub entries: ArrayVec<Entry, MOST_HELD>,
+}
+
+// A contract sees what the page holds.
+impl Model for Page {
+    ghost use Rattle.layout.specs.Pages.{PageData};
+
+    ghost Value = { PageData };
+
+    ghost view = { λ p. record { first = p.first; rows = p.entries.items } };
+
+    ghost inverse = { λ d. record { first = d.first; entries = record { items = d.rows } } };
 }

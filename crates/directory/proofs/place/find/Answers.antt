@@ -1,24 +1,21 @@
-use Rattle.std.proofs.Common.{sym, arith}
-use Rattle.std.proofs.ByRecursion.{All-more}
-use Rattle.directory.proofs.Finding.{stops_at, stops-before, passes-all}
+use Rattle.std.proofs.Common.{sym, ap, ◌∙◌}
+use Rattle.std.specs.Ordering.{is_eq}
+use Rattle.directory.proofs.Finding.{stands_at, stands-before, stands-behind}
 use Rattle.directory.proofs.place.find.Goals as goal
 
-pub returns-in-Less : goal.returns-in-Less
-returns-in-Less c =
-    let p = c.args.page.now in
-    stops-before c.args.name.now.bytes p.entries p.count c.loop-i.i (omega (arith, p.few, p.long)) c.loop-i.invariant _ c.loop-i-test.true c.in-Less.ensures
+pub returns-in-Some : goal.returns-in-Some
+returns-in-Some c =
+    rw (← c.page.view_is, ← c.as_slice-entries.ensures.value)
+    (stands_at c.args.name.now.bytes c.as_slice-entries.result.now c.in-Some.i _ (sym c.first_reached.ensures ∙ c.in-Some.is)
+    (sym (ap is_eq c.compare.ensures) ∙ sym c.is_eq.ensures ∙ c.if-is_eq.true))
 
-pub returns-in-Equal : goal.returns-in-Equal
-returns-in-Equal c =
-    let p = c.args.page.now in
-    stops_at c.args.name.now.bytes p.entries p.count c.loop-i.i (omega (arith, p.few, p.long)) c.loop-i.invariant _ c.loop-i-test.true c.in-Equal.ensures
+pub returns-in-Some-2 : goal.returns-in-Some-2
+returns-in-Some-2 c =
+    rw (← c.page.view_is, ← c.as_slice-entries.ensures.value)
+    (stands-before c.args.name.now.bytes c.as_slice-entries.result.now c.in-Some.i _ (sym c.first_reached.ensures ∙ c.in-Some.is)
+    (sym (ap is_eq c.compare.ensures) ∙ sym c.is_eq.ensures ∙ c.if-is_eq.false))
 
-pub loop-i-preserved : goal.loop-i-preserved
-loop-i-preserved c =
-    let p = c.args.page.now in
-    All-more _ p.entries c.loop-i.i _ (omega (arith, p.few, p.long)) c.loop-i.invariant (sym c.in-Greater.ensures)
-
-pub returns : goal.returns
-returns c =
-    let p = c.args.page.now in
-    passes-all c.args.name.now.bytes p.entries p.count c.loop-i.i (omega (arith, p.few, p.long)) c.loop-i.invariant (omega arith)
+pub returns-in-None : goal.returns-in-None
+returns-in-None c =
+    rw (← c.page.view_is, ← c.as_slice-entries.ensures.value)
+    (stands-behind c.args.name.now.bytes c.as_slice-entries.result.now (sym c.first_reached.ensures ∙ c.in-None.is))

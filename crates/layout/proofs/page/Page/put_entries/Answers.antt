@@ -1,7 +1,7 @@
-use Rattle.std.proofs.Common.{◌≡◌, ℕ, ◌+◌, ◌*◌, length, take, sym, refl, ap, ◌∙◌, arith}
+use Rattle.std.proofs.Common.{◌+◌, ◌*◌, length, sym, refl, ap, ◌∙◌, arith}
 use Rattle.std.proofs.lemmas.List.{get_or_default}
 use Rattle.layout.specs.Words.{written}
-use Rattle.layout.specs.Entries.{entries_at, stored_entry_bytes, all_entry_bytes}
+use Rattle.layout.specs.Entries.{entries_at, stored_entry_bytes}
 use Rattle.layout.specs.declared.entry.StoredEntry.{StoredEntry}
 use Rattle.layout.proofs.Writing.{written_none}
 use Rattle.layout.proofs.Paging.{put-entry-more}
@@ -12,11 +12,7 @@ loop-i-init c = (sym (written_none c.args.sector.now entries_at), refl)
 
 pub loop-i-preserved : goal.loop-i-preserved
 loop-i-preserved c =
-    put-entry-more c.args.sector.now c.loop-i.sector c.store.new.sector c.args.self.now.entries c.loop-i.i _ (omega arith) (get_or_default c.args.self.now.entries c.loop-i.i _ _ (omega arith)) (omega arith)
+    let es = c.deref-entry-items.result.now in
+    put-entry-more c.args.sector.now c.loop-i.sector c.store.new.sector es c.loop-i.i _ (omega arith) (get_or_default es c.loop-i.i _ _ (omega arith)) (omega arith)
     (sym (ap (λ (s : StoredEntry). length (stored_entry_bytes s)) c.from.ensures) ∙ c.store.ensures.long)
     (c.store.ensures.after ∙ ap (λ (s : StoredEntry). written c.loop-i.sector (64 + 40 * c.loop-i.i) (stored_entry_bytes s)) c.from.ensures) c.loop-i.invariant
-
-pub returns : goal.returns
-returns c =
-    let e : c.loop-i.i ≡ c.args.self.now.count = omega arith in
-    c.loop-i.invariant.0 ∙ ap (λ (n : ℕ). written c.args.sector.now entries_at (all_entry_bytes (take n c.args.self.now.entries))) e
