@@ -1,7 +1,7 @@
 -- What holds of lines that are cut in two.
-use Rattle.std.proofs.Common.{◌≡◌, ℕ, suc, ◌+◌, ◌-◌, ◌<◌, ◌≤◌, Bool, true, false, cond, ◌&&◌, ◌||◌, eqb, ltb, List, ◌∷◌, ◌++◌, length, take, Option, sym, refl, ap, ◌∙◌, ap₂, arith, length-drop, length-take}
+use Rattle.std.proofs.Common.{◌≡◌, ℕ, ◌+◌, ◌-◌, ◌<◌, ◌≤◌, ltb, List, ◌∷◌, ◌++◌, length, take, Option, sym, refl, ap, ◌∙◌, ap₂, arith, length-drop, length-take}
+use Rattle.std.proofs.lemmas.Bool.Decides.{nat_tests}
 use Rattle.std.proofs.lemmas.List.{length-append, take-append-drop}
-use Rattle.std.proofs.lemmas.Bool.{eq-eqb, ne_eqb, ltb-true, ltb-false, lt-ltb, le-ltb}
 use Rattle.numbers.specs.declared.sector.Sector.{Sector}
 use Rattle.layout.specs.declared.entry.Entry.{Entry}
 use Rattle.layout.specs.Pages.{PageData}
@@ -19,10 +19,7 @@ module _ (m : ℕ) (f : Option Sector) (all : List Entry) (n : Neighbours) (c : 
   whole = ap₂ ◌++◌ rows c.after ∙ take-append-drop m all
 
   sizes : (length n.left.rows ≡ m) × (m + 1 + length n.right.rows ≡ length all)
-  sizes =
-      let l = ap length rows ∙ length-take m all in
-      let r : suc (length n.right.rows) ≡ length all - m = ap length c.after ∙ length-drop m all in
-      (omega arith, omega arith)
+  sizes = let l = ap length rows in let r = ap length c.after in grind (arith, length-take, length-drop)
 
 only : (m : ℕ) (f : Option Sector) (all : List Entry) (n n' : Neighbours) → Cut m f all n → Cut m f all n' → (n.left ≡ n'.left) × (n.middle.name ≡ n'.middle.name) × (n.middle.file ≡ n'.middle.file) × (n.right ≡ n'.right)
 only m f all n n' c d =
@@ -39,46 +36,17 @@ module _ (n n' : Neighbours) (s : Shared (share (length n.left.rows) (length n.r
       (k.0, omega (arith, k.0, k.1))
 
   from_right : length n.left.rows ≡ 11 → 12 < length n.right.rows → (length n'.left.rows ≡ 11 + lent (length n.right.rows)) × (length n'.right.rows ≡ length n.right.rows - lent (length n.right.rows))
-  from_right a b =
-      let is : share (length n.left.rows) (length n.right.rows) ≡ length n.left.rows + lent (length n.right.rows) =
-      ap (λ (t : Bool). cond t (length n.left.rows + lent (length n.right.rows)) (length n.left.rows - lent (length n.left.rows))) (lt-ltb (length n.left.rows) (length n.right.rows) (omega arith)) in
-      let k = counts in
-      let i = k.0 ∙ is in
-      (omega (arith, i), omega (arith, i, k.1))
+  from_right a b = let k = counts in grind (arith, nat_tests)
 
   from_left : 12 < length n.left.rows → length n.right.rows ≡ 11 → (length n'.left.rows ≡ length n.left.rows - lent (length n.left.rows)) × (length n'.right.rows ≡ 11 + lent (length n.left.rows))
-  from_left a b =
-      let is : share (length n.left.rows) (length n.right.rows) ≡ length n.left.rows - lent (length n.left.rows) =
-      ap (λ (t : Bool). cond t (length n.left.rows + lent (length n.right.rows)) (length n.left.rows - lent (length n.left.rows))) (le-ltb (length n.left.rows) (length n.right.rows) (omega arith)) in
-      let k = counts in
-      let i = k.0 ∙ is in
-      (omega (arith, i), omega (arith, i, k.1))
-
--- more than 12 beside 11 are more than 24 with the entry between them
-beyond : (b n : ℕ) → n ≡ b + 12 → (t : Bool) → ltb 12 b ≡ t → ltb 24 n ≡ t
-beyond b n h true e = let l = ltb-true 12 b e in lt-ltb 24 n (omega arith)
-beyond b n h false e = let l = ltb-false 12 b e in le-ltb 24 n (omega arith)
-
-or-none : (t : Bool) → (t || false) ≡ t
-or-none true = refl
-or-none false = refl
-
-and-all : (t : Bool) → (t && true) ≡ t
-and-all true = refl
-and-all false = refl
+  from_left a b = let k = counts in grind (arith, nat_tests)
 
 module _ (n : Neighbours) where
   on_right : length n.left.rows ≡ 11 → 12 ≤ length n.right.rows → uneven n ≡ ltb 24 (length (line n))
-  on_right h l =
-      let b = length n.right.rows in
-      let k = long-line n in
-      ap₂ (λ (x y : Bool). (x && ltb 12 b) || (y && eqb b 11)) (eq-eqb (length n.left.rows) 11 h) (le-ltb 12 (length n.left.rows) (omega arith)) ∙ or-none (ltb 12 b) ∙ sym (beyond b (length (line n)) (omega arith) (ltb 12 b) refl)
+  on_right h l = let k = long-line n in grind (arith, nat_tests)
 
   on_left : 12 ≤ length n.left.rows → length n.right.rows ≡ 11 → uneven n ≡ ltb 24 (length (line n))
-  on_left l h =
-      let a = length n.left.rows in
-      let k = long-line n in
-      ap₂ (λ (x y : Bool). (x && ltb 12 (length n.right.rows)) || (ltb 12 a && y)) (ne_eqb a 11 (λ k. omega arith)) (eq-eqb (length n.right.rows) 11 h) ∙ and-all (ltb 12 a) ∙ sym (beyond a (length (line n)) (omega arith) (ltb 12 a) refl)
+  on_left l h = let k = long-line n in grind (arith, nat_tests)
 
 pub line-laws : LineLaws
 line-laws =

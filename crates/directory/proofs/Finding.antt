@@ -1,8 +1,8 @@
 -- Where the first entry that is not below a name stands.
-use Rattle.std.proofs.Common.{◌≡◌, ℕ, suc, ◌+◌, ◌≤◌, Bool, true, false, cond, not, ltb, List, [], ◌∷◌, length, get_or, take, drop, Some, None, Ok, Err, sym, refl, subst, ◌∙◌, arith}
+use Rattle.std.proofs.Common.{◌≡◌, ℕ, suc, ◌+◌, ◌≤◌, true, false, cond, not, ltb, List, [], ◌∷◌, length, get_or, take, drop, Some, None, Ok, Err, sym, refl, subst, ◌∙◌, arith}
 use Rattle.std.specs.List.{position, position_or_len}
 use Rattle.std.specs.Ordering.{is_le, is_eq}
-use Rattle.std.proofs.lemmas.Bool.{ltb-false}
+use Rattle.std.proofs.lemmas.Bool.Decides.{nat_tests}
 use Rattle.std.proofs.lemmas.List.{drop_more, drop_all, take_all}
 use Rattle.std.proofs.lemmas.List.Quantifiers.{position-Some}
 use Rattle.numbers.specs.Names.{Key}
@@ -10,23 +10,17 @@ use Rattle.numbers.specs.Order.{Cmp, cmp, below, same, above}
 use Rattle.layout.specs.declared.entry.Entry.{Entry}
 use Rattle.directory.specs.Places.{reaches, OverAll, NextHas, UnderNext, Stands}
 
-picked : (b : Bool) (n i : ℕ) → cond b (Some n) None ≡ Some i → n ≡ i
-picked true n i h = cc
-picked false n i h = absurd (cc)
+picked : (n m i : ℕ) → cond (ltb n m) (Some n) None ≡ Some i → n ≡ i
+picked n m i h = grind (arith, nat_tests)
 
-missed : (n m : ℕ) (b : Bool) → ltb n m ≡ b → cond b (Some n) None ≡ None → m ≤ n
-missed n m true l h = absurd (cc)
-missed n m false l h = ltb-false n m l
+missed : (n m : ℕ) → cond (ltb n m) (Some n) None ≡ None → m ≤ n
+missed n m h = grind (arith, nat_tests)
 
 is-same : (r : Cmp) → is_eq r ≡ true → r ≡ same
-is-same below h = absurd (cc)
-is-same same h = refl
-is-same above h = absurd (cc)
+is-same r h = grind arith
 
 is-below : (r : Cmp) → is_le r ≡ true → is_eq r ≡ false → r ≡ below
-is-below below h l = refl
-is-below same h l = absurd (cc)
-is-below above h l = absurd (cc)
+is-below r h l = grind arith
 
 module _ (k : Key) where
   -- the entries before it are below the name
@@ -42,7 +36,7 @@ module _ (k : Key) where
   module _ (es : List Entry) where
     module _ (i : ℕ) (d : Entry) (first : position (reaches k) es ≡ Some i) where
       front : OverAll k (take i es)
-      front = subst (λ (j : ℕ). OverAll k (take j es)) (picked _ (position_or_len (reaches k) es) i first) (over es)
+      front = subst (λ (j : ℕ). OverAll k (take j es)) (picked (position_or_len (reaches k) es) (length es) i first) (over es)
 
       next : drop i es ≡ get_or es i d ∷ drop (i + 1) es
       next = drop_more es i d (position-Some (reaches k) es i d first).0
@@ -58,5 +52,5 @@ module _ (k : Key) where
     pub stands-behind : position (reaches k) es ≡ None → Stands k es (Err (length es))
     stands-behind h =
         let n = position_or_len (reaches k) es in
-        let l = missed n (length es) _ refl h in
+        let l = missed n (length es) h in
         (omega arith, subst (OverAll k) (take_all n es l ∙ sym (take_all (length es) es (omega arith))) (over es), subst (UnderNext k) (sym (drop_all (length es) es (omega arith))) tt)

@@ -1,12 +1,12 @@
 -- Page editing is what the tree does to a page.
-use Rattle.std.proofs.Common.{◌≡◌, ℕ, zero, suc, Bool, cond, List, [], ◌∷◌, ◌++◌, length, take, drop, Option, sym, refl, ap, ◌∙◌, ap₂, arith}
-use Rattle.std.proofs.lemmas.Bool.{le-leb, lt-leb}
+use Rattle.std.proofs.Common.{◌≡◌, ℕ, zero, suc, List, [], ◌∷◌, ◌++◌, length, take, drop, Option, sym, refl, ap, ◌∙◌, ap₂, arith}
+use Rattle.std.proofs.lemmas.Bool.Decides.{nat_tests}
 use Rattle.numbers.specs.Names.{Key}
 use Rattle.numbers.specs.declared.sector.Sector.{Sector}
 use Rattle.layout.specs.declared.entry.Entry.{Entry}
 use Rattle.layout.specs.Pages.{PageData}
 use Rattle.tree.specs.Tree as tree
-use Rattle.tree.specs.Insert.{one, two, halves, cut}
+use Rattle.tree.specs.Insert.{two, halves, cut}
 use Rattle.tree.specs.Delete.{share}
 use Rattle.directory.specs.declared.share.Neighbours.{Neighbours}
 use Rattle.directory.specs.Lines.{over, line, Cut}
@@ -47,24 +47,15 @@ pub tree_laws : TreeLaws
 tree_laws = record {
   splits = λ p n long c.
       let l = items-length p.rows in
-      ap (λ (b : Bool). cond b (one (tree_page p)) (cut 12 p.first (items p.rows))) (lt-leb (length (items p.rows)) 24 (omega arith)) ∙ cut-is 12 p.first p.rows n c;
+      let is = cut-is 12 p.first p.rows n c in
+      grind (arith, nat_tests);
   evens = λ n n' long s.
-      let xs = items n.left.rows in
-      let ys = items n.right.rows in
-      let f = n.left.first in
-      let all = xs ++ (tree.item (pair n.middle) n.right.first ∷ ys) in
-      let is = line-items n in
-      let l = ap length (sym is) ∙ items-length (line n) in
-      let m = ap₂ share (items-length n.left.rows) (items-length n.right.rows) in
-      ap (λ (b : Bool). cond b (one (tree.page f all)) (cut (share (length xs) (length ys)) f all)) (lt-leb (length all) 24 (omega arith))
-      ∙ (ap₂ (λ (k : ℕ) (zs : Items). cut k f zs) m (sym is) ∙ cut-is (share (length n.left.rows) (length n.right.rows)) f (line n) n' s.cut);
+      let l = items-length (line n) in
+      let a = items-length n.left.rows in
+      let b = items-length n.right.rows in
+      let is = cut-is (share (length n.left.rows) (length n.right.rows)) n.left.first (line n) n' s.cut in
+      rw (← line-items n, a, b) (grind (arith, nat_tests));
   joins = λ n few.
-      let xs = items n.left.rows in
-      let ys = items n.right.rows in
-      let f = n.left.first in
-      let all = xs ++ (tree.item (pair n.middle) n.right.first ∷ ys) in
-      let is = line-items n in
-      let l = ap length (sym is) ∙ items-length (line n) in
-      ap (λ (b : Bool). cond b (one (tree.page f all)) (cut (share (length xs) (length ys)) f all)) (le-leb (length all) 24 (omega arith))
-      ∙ ap (λ (zs : Items). one (tree.page f zs)) (sym is);
+      let l = items-length (line n) in
+      rw (← line-items n) (grind (arith, nat_tests));
 }
