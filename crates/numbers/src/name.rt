@@ -81,6 +81,7 @@ impl Name {
     }
 
     // Is this name below the other, the same, or above it?
+    // kept beside the derived order, which it is, to state it in the words of the format
     pub fn compare(&self, other: &Name) -> Ordering
         ensures { result ≡ cmp self.now.bytes other.now.bytes }
     {
