@@ -1,5 +1,7 @@
 -- Two neighbours evened out or joined: both are new.
 use Rattle.std.proofs.Common.{◌≡◌, ℕ, zero, suc, pred, ◌+◌, ◌-◌, ◌<◌, ◌≤◌, Bool, true, false, cond, ltb, leb, ◌⊎◌, List, [], ◌∷◌, ◌++◌, length, take, drop, refl, ap, ap₂, inl, inr, arith}
+use Rattle.tree.proofs.Fill.{EachUp}
+use Rattle.std.proofs.Math.Seq.{take-append-add, drop-append-add}
 use Rattle.std.proofs.lemmas.List.{take-append-drop, length-take, length-drop, length-append, take-append-le, drop-append-le}
 use Rattle.std.proofs.lemmas.Bool.{ltb-true, le-leb, lt-leb, lt-ltb, le-ltb, cases_lt}
 use Rattle.numbers.specs.Order.{Cmp}
@@ -10,18 +12,6 @@ use Rattle.tree.specs.Fresh.{unmarked}
 use Rattle.tree.proofs.Lists.{all_left, all_right}
 use Rattle.tree.proofs.Pages.{pages_up, rest-pages, cut-pages}
 use Rattle.tree.proofs.Marks.{some-mid, some-all, Home, AtHome, Marked, rest-old, New, Marks, new-stray, new-resized, old-none, new-counts, Held, held_none}
-
-take_past : {A : Type 0} (xs : List A) (y : A) (ys : List A) (m j : ℕ) → m ≡ length xs + suc j → take m (xs ++ (y ∷ ys)) ≡ xs ++ (y ∷ take j ys)
-take_past [] y ys zero j h = absurd (omega arith)
-take_past [] y ys (suc m) j h = let i : m ≡ j = omega arith in ap (λ (z : ℕ). y ∷ take z ys) i
-take_past (x ∷ xs) y ys zero j h = absurd (omega arith)
-take_past {A} (x ∷ xs) y ys (suc m) j h = ap (λ (z : List A). x ∷ z) (take_past xs y ys m j (omega arith))
-
-drop_past : {A : Type 0} (xs : List A) (y : A) (ys : List A) (m j : ℕ) → m ≡ length xs + suc j → drop m (xs ++ (y ∷ ys)) ≡ drop j ys
-drop_past [] y ys zero j h = absurd (omega arith)
-drop_past [] y ys (suc m) j h = let i : m ≡ j = omega arith in ap (λ (z : ℕ). drop z ys) i
-drop_past (x ∷ xs) y ys zero j h = absurd (omega arith)
-drop_past (x ∷ xs) y ys (suc m) j h = drop_past xs y ys m j (omega arith)
 
 -- what two neighbours become
 module _ {K S : Type 0} (c : S) (xs : List (Item K S)) (e : Entry K) (d : S) (ys : List (Item K S)) where
@@ -35,7 +25,7 @@ module _ {K S : Type 0} (c : S) (xs : List (Item K S)) (e : Entry K) (d : S) (ys
   even-right h k =
       let j = pred (lent (length ys)) in
       let s : share (length xs) (length ys) ≡ length xs + suc j = rw (lt-ltb (length xs) (length ys) (omega arith)) (omega arith) in
-      rw (lt-leb (length (xs ++ (item e d ∷ ys))) 24 (omega (arith, long))) (ap₂ (halves c) (take_past xs (item e d) ys (share (length xs) (length ys)) j s) (drop_past xs (item e d) ys (share (length xs) (length ys)) j s))
+      rw (lt-leb (length (xs ++ (item e d ∷ ys))) 24 (omega (arith, long))) (rw s (ap₂ (halves c) (take-append-add xs (item e d ∷ ys) (suc j)) (drop-append-add xs (item e d ∷ ys) (suc j))))
 
   pub even-left : 13 ≤ length xs → length ys ≡ 11 →
       even (page c xs) e (page d ys) ≡ halves c (take (length xs - lent (length xs)) xs) (drop (length xs - lent (length xs)) xs ++ (item e d ∷ ys))
@@ -54,17 +44,13 @@ even-pages {K} {S} π (page c xs) e (page d ys) = go (leb (length (xs ++ (item e
     go true = let r = rest-pages π xs (item e d ∷ ys) in omega arith
     go false = let r = rest-pages π xs (item e d ∷ ys) in let s = cut-pages π (share (length xs) (length ys)) c all in omega arith
 
--- of what stands in the place of two: one at least is as N says; each is
+-- of what stands in the place of two: one at least is as N says
 module _ {K S : Type 0} (N : S → Type 0) where
   abbrev pub SomeUp : Up K S → Type 0
   SomeUp (one c) = N c
   SomeUp (two c e d) = N c ⊎ N d
 
-  abbrev pub EachUp : Up K S → Type 0
-  EachUp (one c) = N c
-  EachUp (two c e d) = N c × N d
-
-  pub each-some : (u : Up K S) → EachUp u → SomeUp u
+  pub each-some : (u : Up K S) → EachUp N u → SomeUp u
   each-some (one c) h = h
   each-some (two c e d) h = inl h.0
 

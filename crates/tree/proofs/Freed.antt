@@ -1,5 +1,6 @@
 -- The sectors set free are those of the old pages that the new tree has no more.
 use Rattle.std.proofs.Common.{◌≡◌, ℕ, zero, suc, ◌+◌, ◌<◌, ◌≤◌, Bool, true, false, cond, ◌⊎◌, List, [], ◌∷◌, sym, refl, ap, ◌∙◌, subst, inl, inr, arith}
+use Rattle.std.proofs.lemmas.Bool.{true≢false}
 use Rattle.numbers.specs.Order.{Cmp, IsOrder}
 use Rattle.tree.specs.Tree.{Item, item, Page, page, Sub, Tree, All, Child, pages_rest, Good}
 use Rattle.tree.specs.Delete.{delete}
@@ -160,7 +161,7 @@ module _ {K : Type 0} (cmp : K → K → Cmp) (ord : IsOrder K cmp) (eq : K → 
           go b t e (inr (q, l, i, f)) =
               let y : has_below eq (loaded d n r) j (load d j a) ≡ true = root-has eq is d n r j a s in
               let x : has_below eq (loaded d n r) j (load d j a) ≡ false = subst (λ (z : Sub K j). has_below eq (loaded d n r) j z ≡ false) e f in
-              let z : ◌≡◌ {A = ℕ} 0 1 = cc in absurd (omega arith)
+              absurd (true≢false (sym y ∙ x))
 
 pub replace-known : (K : Type 0) (eq : K → K → Bool) → IsSame K eq → (free : ℕ → ℕ) (d : Shown K) (n r : ℕ) (u : Tree K) → u.over ≤ n → Ready free d n r (changed eq (loaded d n r) u) → let d' = (replaced eq free d n r u).0 in
     (j x : ℕ) → UnderRoot d' u.over r j x → Known free (changed eq (loaded d n r) u) (has_below eq (loaded d n r)) (λ j x. UnderRoot d n r j x) d' j x

@@ -1,6 +1,7 @@
 -- The sectors that a stored insert sets free.
 use Rattle.std.proofs.Common.{◌≡◌, ℕ, zero, suc, ◌+◌, ◌<◌, ◌≤◌, Bool, true, false, List, [], ◌∷◌, sym, refl, ◌∙◌, subst, inl, inr, arith}
-use Rattle.std.proofs.lemmas.Bool.{or_right}
+use Rattle.tree.proofs.Fill.{EachUp}
+use Rattle.std.proofs.lemmas.Bool.{or_right, or_parts}
 use Rattle.numbers.specs.Order.{Cmp, below, same, above, IsOrder}
 use Rattle.tree.specs.Tree.{Entry, Item, item, Page, page, Sub, Tree, All, Child, pick, Found, at, look_in, look, lookup, lowest, Full, FullPage, fewest, Good}
 use Rattle.tree.specs.Insert.{Up, one, two, tops, splice, fit, grow, ins_in, ins_page, ins, insert}
@@ -10,7 +11,7 @@ use Rattle.tree.proofs.Marks.{Marked, MarkedPage, Held, Marks, Home}
 use Rattle.tree.proofs.Homes.{home}
 use Rattle.tree.proofs.Old.{has-marked, has-marks}
 use Rattle.tree.proofs.InsertCount.{AllNew, SplitNew, ins-fresh, root-fresh}
-use Rattle.tree.proofs.Stored.{load-stays, write_same, write-other, Around, Same, way_in-same, EachUp, fit-each, fit-map, store_out, page-out, ins-out, page-map, grow-bound, insert-stores}
+use Rattle.tree.proofs.Stored.{load-stays, write_same, write-other, Around, Same, way_in-same, fit-each, fit-map, store_out, page-out, ins-out, page-map, grow-bound, insert-stores}
 use Rattle.tree.proofs.Places.{kid-elim, rest-each, full-each}
 use Rattle.tree.proofs.Freed.{Known, From, from-stays, from-page, frees}
 
@@ -155,13 +156,8 @@ module _ (K : Type 0) (free : ℕ → ℕ) (r m : ℕ) (distinct : (i j : ℕ) �
 -- what is no page of the tree is none below its root
 known-below : {K : Type 0} (eq : K → K → Bool) (t : Tree K) (free : ℕ → ℕ) (m : ℕ) (Old : ℕ → ℕ → Type 0) (d : Shown K) (j x : ℕ) → Known free m (λ n s. has eq (suc t.over) t.root n s) Old d j x → Known free m (has_below eq t) Old d j x
 known-below eq t free m Old d j x (inl k) = inl k
-known-below eq t free m Old d j x (inr (i, l, e, f)) = inr (i, l, e, go (has_below eq t j (load d j x)) refl)
-  where
-    go : (b : Bool) → has_below eq t j (load d j x) ≡ b → b ≡ false
-    go true h =
-        let y : has eq (suc t.over) t.root j (load d j x) ≡ true = or_right (same_sub eq (suc t.over) j t.root (load d j x)) (has_below eq t j (load d j x)) h in
-        let z : ◌≡◌ {A = ℕ} 0 1 = cc in absurd (omega arith)
-    go false h = refl
+known-below eq t free m Old d j x (inr (i, l, e, f)) =
+    inr (i, l, e, (or_parts (same_sub eq (suc t.over) j t.root (load d j x)) (has_below eq t j (load d j x)) f).1)
 
 pub insert-known : {K : Type 0} (cmp : K → K → Cmp) → IsOrder K cmp → (eq : K → K → Bool) → IsSame K eq → (free : ℕ → ℕ) (d : Shown K) (n r : ℕ) (k : K) (v : ℕ) → Good cmp (loaded d n r) → (lookup cmp (loaded d n r) k ≡ at v → ⊥) →
     let m = (insert cmp (loaded d n r) k v).1 in let s = insert_stored cmp free d n r (k, v) in

@@ -18,7 +18,6 @@ pub mod DeleteCount
 pub mod Changes
 pub mod DeleteMost
 pub mod Shares
-pub mod Worked
 pub mod Tall
 pub mod Stored
 pub mod Laid
@@ -29,4 +28,3 @@ pub mod Freed
 pub mod FreedInsert
 pub mod Balance
 pub mod FreedCount
-pub mod StoredWorked

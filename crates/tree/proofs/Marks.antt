@@ -1,5 +1,6 @@
 -- Old pages are marked, and every name has a home: what tells a new page from each marked one.
 use Rattle.std.proofs.Common.{◌≡◌, ℕ, zero, suc, ◌≤◌, Bool, true, false, ◌⊎◌, List, [], ◌∷◌, ◌++◌, length, sym, refl, ap, ◌∙◌, inl, inr, arith}
+use Rattle.std.proofs.lemmas.Bool.{false_from_ne_true}
 use Rattle.numbers.specs.Order.{Cmp, same}
 use Rattle.tree.specs.Tree.{Item, item, Page, page, Sub, All, Child, pages_rest, pages_page, Full}
 use Rattle.tree.specs.Fresh.{unmarked}
@@ -109,18 +110,10 @@ module _ {K : Type 0} (cmp : K → K → Cmp) (o : (n : ℕ) → Sub K n → Boo
 
   module _ (marks : Marks) where
     pub new-child : (n : ℕ) (p : Sub K (suc n)) → SomeChild (New n) p → New (suc n) p
-    new-child n p s = go (o (suc n) p) refl
-      where
-        go : (b : Bool) → o (suc n) p ≡ b → b ≡ false
-        go true e = absurd (marks.closed n p e s)
-        go false e = refl
+    new-child n p s = false_from_ne_true (o (suc n) p) (λ e. marks.closed n p e s)
 
     pub new-stray : (n : ℕ) (c : Sub K n) (xs : List (Item K (Sub K n))) → Some (λ i. AtHome home (suc n) (length xs) i → ⊥) xs → New (suc n) (page c xs)
-    new-stray n c xs s = go (o (suc n) (page c xs)) refl
-      where
-        go : (b : Bool) → o (suc n) (page c xs) ≡ b → b ≡ false
-        go true e = absurd (some-not _ xs s (marks.own n c xs e))
-        go false e = refl
+    new-stray n c xs s = false_from_ne_true (o (suc n) (page c xs)) (λ e. some-not _ xs s (marks.own n c xs e))
 
     -- some entry is from a page of another size
     pub new-resized : (n l : ℕ) (c : Sub K n) (xs : List (Item K (Sub K n))) → (l ≡ length xs → ⊥) → Some (AtHome home (suc n) l) xs → New (suc n) (page c xs)

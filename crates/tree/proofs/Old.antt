@@ -1,6 +1,6 @@
 -- The pages of a tree as marks.
-use Rattle.std.proofs.Common.{◌≡◌, ℕ, zero, suc, Bool, true, false, ◌&&◌, ◌||◌, eqb, ◌⊎◌, List, [], ◌∷◌, ◌++◌, length, refl, ap, ◌∙◌, subst, ap₂, inl, inr, arith}
-use Rattle.std.proofs.lemmas.Bool.{and_parts, and_from, or_cases, or_left, or_right, eqb-true, eq-eqb}
+use Rattle.std.proofs.Common.{◌≡◌, ℕ, zero, suc, Bool, true, false, ◌&&◌, ◌||◌, eqb, ◌⊎◌, List, [], ◌∷◌, ◌++◌, length, refl, ap, ◌∙◌, subst, ap₂, inl, inr, arith, sym}
+use Rattle.std.proofs.lemmas.Bool.{and_parts, and_from, or_cases, or_left, or_right, eqb-true, eq-eqb, false≢true, true≢false}
 use Rattle.numbers.specs.Order.{Cmp, IsOrder}
 use Rattle.tree.specs.Tree.{Entry, Item, item, page, Sub, at, All, Child, flat_rest, flat, Rises}
 use Rattle.tree.specs.Laws.{find}
@@ -59,7 +59,7 @@ module _ {K : Type 0} (eq : K → K → Bool) (is : IsSame K eq) where
   rest_has : (m n : ℕ) (P : Sub K (suc n) → Type 0) (ys : List (Item K (Sub K m))) (xs : List (Item K (Sub K (suc n)))) → ((x : Sub K (suc n)) → any_rest (λ d. has eq m d (suc n) x) ys ≡ true → P x) →
       same_rest eq (same_sub eq m (suc n)) ys xs ≡ true → All (Child P) xs
   rest_has m n P [] [] inc h = tt
-  rest_has m n P [] (x ∷ xs) inc h = let z : ◌≡◌ {A = ℕ} 0 1 = cc in absurd (omega arith)
+  rest_has m n P [] (x ∷ xs) inc h = absurd (false≢true h)
   rest_has m n P (y ∷ ys) [] inc h = tt
   rest_has m n P (item e d ∷ ys) (item g c ∷ xs) inc h =
       let p = and_parts (same_entry eq e g) (same_sub eq m (suc n) d c && same_rest eq (same_sub eq m (suc n)) ys xs) h in
@@ -79,7 +79,7 @@ module _ {K : Type 0} (eq : K → K → Bool) (is : IsSame K eq) where
   -- a page found in one of the children ys, of which each is closed
   any-closed : (m M : ℕ) (t : Sub K M) (n : ℕ) (p : Sub K (suc (suc n))) (ys : List (Item K (Sub K m))) → ((d : Sub K m) → has eq m d (suc (suc n)) p ≡ true → HasAll m d n p) →
       ((s : Sub K (suc n)) → any_rest (λ d. has eq m d (suc n) s) ys ≡ true → has eq M t (suc n) s ≡ true) → any_rest (λ d. has eq m d (suc (suc n)) p) ys ≡ true → HasAll M t n p
-  any-closed m M t n p [] each inc h = let z : ◌≡◌ {A = ℕ} 0 1 = cc in absurd (omega arith)
+  any-closed m M t n p [] each inc h = absurd (false≢true h)
   any-closed m M t n p (item e d ∷ ys) each inc h =
       go (any-closed m M t n p ys each (λ s k. inc s (or_right (has eq m d (suc n) s) (any_rest (λ d. has eq m d (suc n) s) ys) k))) (or_cases (has eq m d (suc (suc n)) p) (any_rest (λ d. has eq m d (suc (suc n)) p) ys) h)
     where
@@ -88,7 +88,7 @@ module _ {K : Type 0} (eq : K → K → Bool) (is : IsSame K eq) where
       go r (inr h) = r h
 
   pub has-closed : (m : ℕ) (t : Sub K m) (n : ℕ) (p : Sub K (suc (suc n))) → has eq m t (suc (suc n)) p ≡ true → HasAll m t n p
-  has-closed zero t n p h = let z : ◌≡◌ {A = ℕ} 0 1 = cc in absurd (omega arith)
+  has-closed zero t n p h = absurd (false≢true h)
   has-closed (suc m) (page d ys) n (page c xs) h =
       go (λ b k. has-closed m b n (page c xs) k) (or_cases (same_page eq (same_sub eq m (suc n)) (page d ys) (page c xs)) (has eq m d (suc (suc n)) (page c xs) || any_rest (λ d. has eq m d (suc (suc n)) (page c xs)) ys) h)
     where
@@ -119,7 +119,7 @@ module _ {K : Type 0} (eq : K → K → Bool) (is : IsSame K eq) where
 
   each_same : {S T : Type 0} (P : Entry K → Type 0) (f : S → T → Bool) (xs : List (Item K S)) (ys : List (Item K T)) → same_rest eq f xs ys ≡ true → All (Each P) xs → All (Each P) ys
   each_same P f [] [] h a = tt
-  each_same P f [] (y ∷ ys) h a = let z : ◌≡◌ {A = ℕ} 0 1 = cc in absurd (omega arith)
+  each_same P f [] (y ∷ ys) h a = absurd (false≢true h)
   each_same P f (x ∷ xs) [] h a = tt
   each_same P f (item e c ∷ xs) (item g d ∷ ys) h a =
       let p = and_parts (same_entry eq e g) (f c d && same_rest eq f xs ys) h in
@@ -141,7 +141,7 @@ module _ {K : Type 0} (eq : K → K → Bool) (is : IsSame K eq) where
       where
         go : (has eq m c (suc n) p ≡ true) ⊎ (false ≡ true) → All (Each (StandsIn m j k c [] (suc n) l)) xs
         go (inl h) = each_map _ _ xs (λ e s. let i = home-first cmp ord (flat K m) j k (home cmp m e.0) e.0 e.1 c [] r s.1 in (s.0, i.1)) (each c (rises-left cmp ord (flat K m c) [] r) h)
-        go (inr h) = let z : ◌≡◌ {A = ℕ} 0 1 = cc in absurd (omega arith)
+        go (inr h) = absurd (false≢true h)
     under-stands m j k n l p xs each c (item g d ∷ ys) r h =
         go (under-stands m j k n l p xs each d ys (rises-right cmp ord (flat K m c) _ r).1) (or_cases (has eq m c (suc n) p) (has eq m d (suc n) p || any_rest (λ d. has eq m d (suc n) p) ys) h)
       where
@@ -152,7 +152,7 @@ module _ {K : Type 0} (eq : K → K → Bool) (is : IsSame K eq) where
         go rec (inr h) = each_map _ _ xs (λ e s. let i = home-later cmp ord (flat K m) j k (home cmp m e.0) e.0 e.1 c g d ys r s.1 in (i.0 ∙ s.0, i.1)) (rec h)
 
     has-stands : (m : ℕ) (t : Sub K m) → Rises cmp (flat K m t) → (n : ℕ) (c : Sub K n) (xs : List (Item K (Sub K n))) → has eq m t (suc n) (page c xs) ≡ true → All (Each (Stands m t (suc n) (length xs))) xs
-    has-stands zero t r n c xs h = let z : ◌≡◌ {A = ℕ} 0 1 = cc in absurd (omega arith)
+    has-stands zero t r n c xs h = absurd (false≢true h)
     has-stands (suc m) (page d ys) r n c xs h =
         go (λ b k i. has-stands m b k n c xs i) (or_cases (same_page eq (same_sub eq m n) (page d ys) (page c xs)) (has eq m d (suc n) (page c xs) || any_rest (λ d. has eq m d (suc n) (page c xs)) ys) h)
       where
@@ -182,11 +182,11 @@ module _ {K : Type 0} (eq : K → K → Bool) (is : IsSame K eq) where
 
         not-rest : (n : ℕ) (xs : List (Item K (Sub K (suc n)))) → All (Child (λ d. has eq m t (suc n) d ≡ true)) xs → Some (Child (λ d. has eq m t (suc n) d ≡ false)) xs → ⊥
         not-rest n [] a s = s
-        not-rest n (item e d ∷ xs) a (inl s) = let z : ◌≡◌ {A = ℕ} 0 1 = cc in absurd (omega arith)
+        not-rest n (item e d ∷ xs) a (inl s) = true≢false (sym a.0 ∙ s)
         not-rest n (item e d ∷ xs) a (inr s) = not-rest n xs a.1 s
 
         none-new : (n : ℕ) (p : Sub K (suc (suc n))) → HasAll m t n p → SomeChild (λ d. has eq m t (suc n) d ≡ false) p → ⊥
-        none-new n (page c xs) h (inl s) = let z : ◌≡◌ {A = ℕ} 0 1 = cc in absurd (omega arith)
+        none-new n (page c xs) h (inl s) = true≢false (sym h.0 ∙ s)
         none-new n (page c xs) h (inr s) = not-rest n xs h.1 s
 
         no-child : (xs : List (Item K (Sub K 0))) → Some (Child (λ (d : Sub K 0). ⊥)) xs → ⊥

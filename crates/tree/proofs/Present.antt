@@ -5,7 +5,7 @@ use Rattle.numbers.specs.Order.{Cmp, below, same, above, IsOrder}
 use Rattle.tree.specs.Tree.{Entry, Item, item, Page, page, Sub, pick, Found, absent, at, look_in, look_page, look, lookup, Tree, All, Child, Full, FullPage, lowest, Good, pages_rest, pages_page, pages_of, pages}
 use Rattle.tree.specs.Delete.{size, if_found}
 use Rattle.tree.specs.Insert.{Up, one, two, splice, before, fit, ins_in, ins_page, ins, grow, insert}
-use Rattle.tree.specs.Laws.{InsertAgain, InsertPath, InsertGains, EmptyGood}
+use Rattle.tree.specs.Laws.{InsertAgain, InsertPath, InsertGains}
 use Rattle.tree.proofs.Pages.{before-pages, insert-pages, tops-pos}
 
 module _ {K : Type 0} (cmp : K → K → Cmp) (ord : IsOrder K cmp) where
@@ -131,6 +131,3 @@ module _ {K : Type 0} (cmp : K → K → Cmp) (ord : IsOrder K cmp) where
   insert-again exact t k v g e =
       let u = ins cmp (suc t.over) (k, v) t.root in
       grow-again t.over u.0 u.1 t.root (ins_page-again (Full K t.over) exact (k, v) (ins cmp t.over (k, v)) (look cmp t.over k) (λ c p i. ins-again exact t.over (k, v) c p i) (lowest t.over) t.root g.filled e)
-
-  pub empty-good : EmptyGood cmp
-  empty-good = record { rises = tt; few = omega arith; filled = (omega arith, omega arith, tt, tt) }

@@ -1,6 +1,6 @@
 -- Where the pages of an old tree stand, and a delete that leaves shared pages there.
 use Rattle.std.proofs.Common.{◌≡◌, ℕ, zero, suc, ◌+◌, ◌≤◌, Bool, true, false, cond, ◌&&◌, ◌||◌, ◌⊎◌, List, [], ◌∷◌, sym, refl, ap, ◌∙◌, subst, ap₂, inl, inr, arith}
-use Rattle.std.proofs.lemmas.Bool.{and_parts, or_cases, or_left, or_right}
+use Rattle.std.proofs.lemmas.Bool.{and_parts, or_cases, or_left, or_right, false≢true}
 use Rattle.tree.specs.Tree.{Item, item, Page, page, Sub, Tree, All, Child, pages_rest}
 use Rattle.tree.specs.Fresh.{IsSame, any_rest, any_child, same_entry, same_rest, same_sub, has, sum_children, unmarked, changed}
 use Rattle.tree.specs.Stored.{Shown, map_rest, map_page, load, loaded, write, Each, Sectors, Off, first_in, first_page, where_is, has_below, lay_page, lay, Ready, ReplaceStores, DeleteStores}
@@ -16,8 +16,8 @@ use Rattle.tree.proofs.Laid.{page-laid, laid}
 module _ {K : Type 0} (eq : K → K → Bool) (is : IsSame K eq) where
   rest-exact : {S : Type 0} (f : S → S → Bool) → ((a b : S) → f a b ≡ true → a ≡ b) → (xs ys : List (Item K S)) → same_rest eq f xs ys ≡ true → xs ≡ ys
   rest-exact f h [] [] e = refl
-  rest-exact f h [] (y ∷ ys) e = let z : ◌≡◌ {A = ℕ} 0 1 = cc in absurd (omega arith)
-  rest-exact f h (x ∷ xs) [] e = let z : ◌≡◌ {A = ℕ} 0 1 = cc in absurd (omega arith)
+  rest-exact f h [] (y ∷ ys) e = absurd (false≢true e)
+  rest-exact f h (x ∷ xs) [] e = absurd (false≢true e)
   rest-exact {S} f h (item a c ∷ xs) (item b d ∷ ys) e =
       let p = and_parts (same_entry eq a b) (f c d && same_rest eq f xs ys) e in
       let q = and_parts (f c d) (same_rest eq f xs ys) p.1 in
@@ -45,7 +45,7 @@ module _ {K : Type 0} (eq : K → K → Bool) (is : IsSame K eq) where
       where
         go : (g (load d m c) ≡ true) ⊎ (false ≡ true) → At n s (f c)
         go (inl e) = each c p (sym (same c) ∙ e)
-        go (inr e) = let z : ◌≡◌ {A = ℕ} 0 1 = cc in absurd (omega arith)
+        go (inr e) = absurd (false≢true e)
     first-at m n s h f each c (item e b ∷ xs) p a g same q = go (h c) refl (first-at m n s h f each b xs a.0 a.1 g same)
       where
         go : (o : Bool) → h c ≡ o → ((g (load d m b) || any_rest g (map_rest (load d m) xs)) ≡ true → At n s (first_in eq d h f b xs)) → At n s (cond o (f c) (first_in eq d h f b xs))
@@ -57,7 +57,7 @@ module _ {K : Type 0} (eq : K → K → Bool) (is : IsSame K eq) where
     page-at m n s each (page c xs) h e = first-at m n s (λ b. has eq m (load d m b) n s) (λ b. where_is eq d m b n s) each c xs h.0 h.1 (λ c. has eq m c n s) (λ b. refl) e
 
     pub where-at : (m a n : ℕ) (s : Sub K n) → Sectors B d m a → has eq m (load d m a) n s ≡ true → At n s (where_is eq d m a n s)
-    where-at zero a n s h e = let z : ◌≡◌ {A = ℕ} 0 1 = cc in absurd (omega arith)
+    where-at zero a n s h e = absurd (false≢true e)
     where-at (suc m) a n s h e = go (same_sub eq (suc m) n (load d (suc m) a) s) refl (page-at m n s (λ b i j. where-at m b n s i j) (d a) h.1) e
       where
         go : (o : Bool) → same_sub eq (suc m) n (load d (suc m) a) s ≡ o →
@@ -84,7 +84,7 @@ module _ {K : Type 0} (eq : K → K → Bool) (is : IsSame K eq) where
     where
       go : (has eq m c (suc (suc n)) p ≡ true) ⊎ (false ≡ true) → Kids n T p
       go (inl e) = kids-map n m c T (λ x k. inc x (or_left (has eq m c (suc n) x) false k)) p (has-closed eq is m c n p e)
-      go (inr e) = let z : ◌≡◌ {A = ℕ} 0 1 = cc in absurd (omega arith)
+      go (inr e) = absurd (false≢true e)
   kids-rest n m T p c (item g b ∷ ys) inc h =
       go (kids-rest n m T p b ys (λ x k. inc x (or_right (has eq m c (suc n) x) (has eq m b (suc n) x || any_rest (λ d. has eq m d (suc n) x) ys) k))) (or_cases (has eq m c (suc (suc n)) p) (has eq m b (suc (suc n)) p || any_rest (λ d. has eq m d (suc (suc n)) p) ys) h)
     where

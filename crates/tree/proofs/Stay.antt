@@ -1,6 +1,6 @@
 -- What stands where: a place and the page there, and what stays when other sectors are written.
 use Rattle.std.proofs.Common.{◌≡◌, ℕ, zero, suc, Bool, true, false, cond, ◌||◌, ◌⊎◌, List, [], ◌∷◌, sym, refl, ◌∙◌, subst, inl, inr, arith}
-use Rattle.std.proofs.lemmas.Bool.{or_cases, or_left, or_right}
+use Rattle.std.proofs.lemmas.Bool.{or_cases, or_left, or_right, false≢true}
 use Rattle.tree.specs.Tree.{Item, item, Page, page, Sub, All, Child}
 use Rattle.tree.specs.Fresh.{IsSame, any_rest, any_child, same_sub, has}
 use Rattle.tree.specs.Stored.{Shown, map_rest, map_page, load, Each, Sectors, first_in, first_page, where_is, SomeRest, SomeKid, Stands}
@@ -20,7 +20,7 @@ module _ {K T : Type 0} (h : T → Bool) (g : ℕ → T) where
   some-any (page c xs) (inr s) = or_right (h (g c)) (any_rest h (map_rest g xs)) (some-any-rest xs s)
 
   any-some-rest : (xs : List (Item K ℕ)) → any_rest h (map_rest g xs) ≡ true → SomeRest (λ c. h (g c) ≡ true) xs
-  any-some-rest [] e = let z : ◌≡◌ {A = ℕ} 0 1 = cc in absurd (omega arith)
+  any-some-rest [] e = absurd (false≢true e)
   any-some-rest (item x d ∷ xs) e = go (any-some-rest xs) (or_cases (h (g d)) (any_rest h (map_rest g xs)) e)
     where
       go : (any_rest h (map_rest g xs) ≡ true → SomeRest (λ c. h (g c) ≡ true) xs) → (h (g d) ≡ true) ⊎ (any_rest h (map_rest g xs) ≡ true) → (h (g d) ≡ true) ⊎ SomeRest (λ c. h (g c) ≡ true) xs
@@ -95,7 +95,7 @@ module _ {K : Type 0} (eq : K → K → Bool) (is : IsSame K eq) (d : Shown K) w
       go q = subst (λ (z : ℕ). (s : Sub K z) → same_sub eq n z (load d n b) s ≡ true → (n ≡ z) × (load d z b ≡ s)) q (λ s e. (refl, sub-exact eq is n (load d n b) s e))
 
   pub has-stands : (j : ℕ) (s : Sub K j) (n b : ℕ) → has eq n (load d n b) j s ≡ true → (a : ℕ) × Stands d n b j a × (load d j a ≡ s)
-  has-stands j s zero b e = let z : ◌≡◌ {A = ℕ} 0 1 = cc in absurd (omega arith)
+  has-stands j s zero b e = absurd (false≢true e)
   has-stands j s (suc n) b e = go (λ c i. has-stands j s n c i) (or_cases (same_sub eq (suc n) j (load d (suc n) b) s) (any_child (λ c. has eq n c j s) (load d (suc n) b)) e)
     where
       go : ((c : ℕ) → has eq n (load d n c) j s ≡ true → (a : ℕ) × Stands d n c j a × (load d j a ≡ s)) →
@@ -113,7 +113,7 @@ module _ {K : Type 0} (eq : K → K → Bool) (is : IsSame K eq) (d : Shown K) w
     where
       go : (g (load d m c) ≡ true) ⊎ (false ≡ true) → Stands d m c j (f c) ⊎ ⊥
       go (inl e) = inl (each c (sym (same c) ∙ e))
-      go (inr e) = let z : ◌≡◌ {A = ℕ} 0 1 = cc in absurd (omega arith)
+      go (inr e) = absurd (false≢true e)
   first_rest j m h f each c (item x b ∷ xs) g same e = go (h c) refl (first_rest j m h f each b xs g same)
     where
       v : ℕ
@@ -129,7 +129,7 @@ module _ {K : Type 0} (eq : K → K → Bool) (is : IsSame K eq) (d : Shown K) w
   first-stands j s m each (page c xs) e = first_rest j m (λ b. has eq m (load d m b) j s) (λ b. where_is eq d m b j s) each c xs (λ c. has eq m c j s) (λ b. refl) e
 
   pub where-stands : (j : ℕ) (s : Sub K j) (m a : ℕ) → has eq m (load d m a) j s ≡ true → Stands d m a j (where_is eq d m a j s)
-  where-stands j s zero a e = let z : ◌≡◌ {A = ℕ} 0 1 = cc in absurd (omega arith)
+  where-stands j s zero a e = absurd (false≢true e)
   where-stands j s (suc m) a e = go (same_sub eq (suc m) j (load d (suc m) a) s) refl (first-stands j s m (λ b i. where-stands j s m b i) (d a)) e
     where
       v : ℕ

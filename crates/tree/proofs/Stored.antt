@@ -1,5 +1,6 @@
 -- A stored tree: what stays when other sectors are written, search, and insert.
 use Rattle.std.proofs.Common.{◌≡◌, ℕ, zero, suc, ◌+◌, ◌<◌, ◌≤◌, Bool, true, false, cond, leb, List, [], ◌∷◌, ◌++◌, length, take, drop, sym, refl, ap, ◌∙◌, subst, ap₂, arith}
+use Rattle.tree.proofs.Fill.{EachUp}
 use Rattle.std.proofs.lemmas.List.{take-append-drop}
 use Rattle.std.proofs.lemmas.Bool.{eq-eqb, ne_eqb}
 use Rattle.numbers.specs.Order.{Cmp, below, same, above}
@@ -96,10 +97,6 @@ module _ {K S T : Type 0} (g : S → T) where
   tops-map : (u : Up K S) → tops (map_up g u) ≡ tops u
   tops-map (one p) = refl
   tops-map (two p e q) = refl
-
-abbrev pub EachUp : {K S : Type 0} → (S → Type 0) → Up K S → Type 0
-EachUp B (one a) = B a
-EachUp B (two a e b) = B a × B b
 
 module _ {K : Type 0} (B : ℕ → Type 0) where
   splice-each : (u : Up K ℕ) (xs : List (Item K ℕ)) → EachUp B u → All (Child B) xs → Each B (splice u xs)
