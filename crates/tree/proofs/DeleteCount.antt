@@ -1,5 +1,6 @@
 -- What a delete counts are the pages of the new tree that are not marked.
 use Rattle.std.proofs.Common.{◌≡◌, ℕ, zero, suc, pred, ◌+◌, ◌-◌, ◌<◌, ◌≤◌, Bool, true, false, cond, ltb, ◌⊎◌, List, [], ◌∷◌, ◌++◌, length, take, drop, sym, refl, ap, ◌∙◌, subst, inl, inr, arith}
+use Rattle.tree.proofs.Mend.{mended}
 use Rattle.std.proofs.lemmas.List.{length-take, length-drop, length-append, take-append-drop}
 use Rattle.std.proofs.lemmas.Bool.{ltb-true, eq-eqb, ne_eqb, cases_lt}
 use Rattle.numbers.specs.Order.{Cmp, below, same, above, IsOrder}
@@ -236,7 +237,11 @@ module _ {K : Type 0} (cmp : K → K → Cmp) (ord : IsOrder K cmp) (o : (n : �
         (rw (ne_eqb (length zs) (length (xs ++ (item x d ∷ take (suc j) ys))) (λ z. absurd (omega (arith, s, s', long)))) (omega arith), inr n)
 
     leaf-fill : FilledLeaf (mend_page (page b xs) x (page d ys))
-    leaf-fill = go (ltb (length xs) 12) (ltb (length ys) 12) refl refl
+    leaf-fill =
+        mended FilledLeaf (page b xs) x (page d ys) (λ l. short (omega arith) (cases_lt (length ys) 13)) (λ g l. absurd (omega (arith, q.0.0)))
+        (λ g l.
+          let t = leaf-one (page b xs) fresh in let t' = held_none cmp o home 1 (page d ys) q in
+          (rw (ne_eqb (length zs) (length xs) (λ z. absurd (omega (arith, long)))) (omega arith), inl fresh))
       where
         u : Up K (Sub K 1)
         u = even (page b xs) x (page d ys)
@@ -250,13 +255,6 @@ module _ {K : Type 0} (cmp : K → K → Cmp) (ord : IsOrder K cmp) (o : (n : �
             let j = pred (lent (length ys)) in
             rw (even-right b xs x d ys e l) (lent-leaf j (drop j ys) (omega arith) e (rw length-drop (omega (arith, q.0.1))) (rw length-drop (omega arith))
             (all_right _ (take j ys) (drop j ys) (rw take-append-drop (marks.own 0 d ys q.1.0))))
-
-        go : (s t : Bool) → ltb (length xs) 12 ≡ s → ltb (length ys) 12 ≡ t → FilledLeaf (cond {A = Up K (Sub K 1) × ℕ} s (u, tops u) (cond t (u, tops u) (two (page b xs) x (page d ys), 1)))
-        go true t i h = let l = ltb-true (length xs) 12 i in short (omega arith) (cases_lt (length ys) 13)
-        go false true i h = let l = ltb-true (length ys) 12 h in absurd (omega (arith, q.0.0))
-        go false false i h =
-            let t = leaf-one (page b xs) fresh in let t' = held_none cmp o home 1 (page d ys) q in
-            (rw (ne_eqb (length zs) (length xs) (λ z. absurd (omega (arith, long)))) (omega arith), inl fresh)
 
   leaf-filled : (c : Sub K 0) (zs : List (Item K (Sub K 0))) (d : Sub K 0) (ys : List (Item K (Sub K 0))) (u : Got K (Sub K 1)) → Held K o 1 (page c zs) → Held K o 1 (page d ys) → GotLast K zs u → GotBy Low (Left 0) u →
       Filled (ψ 1) (Fresh 1) (mend K 1) (back K 1) (page c zs) (page d ys) u

@@ -1,5 +1,6 @@
 -- How full the pages stay when an entry goes.
 use Rattle.std.proofs.Common.{◌≡◌, ℕ, zero, suc, ◌+◌, ◌-◌, ◌/◌, ◌≤◌, Bool, true, false, cond, ltb, leb, ◌⊎◌, List, [], ◌∷◌, ◌++◌, length, refl, inl, inr, arith}
+use Rattle.tree.proofs.Mend.{mended}
 use Rattle.std.proofs.lemmas.List.{length-append}
 use Rattle.std.proofs.lemmas.Bool.{leb-true, leb-false, ltb-true, ltb-false}
 use Rattle.numbers.specs.Order.{Cmp, below, same, above, IsOrder}
@@ -40,21 +41,15 @@ module _ {K : Type 0} (cmp : K → K → Cmp) (ord : IsOrder K cmp) where
             cut-full P 12 (share (length xs) (length ys)) c (xs ++ (item e d ∷ ys)) s.0 s.1 (rw n s.2) (rw n s.3) v.2 a
 
     mend_page-full : (p : Page K S) (e : Entry K) (q : Page K S) (a b : ℕ) → 11 ≤ a → 11 ≤ b → 23 ≤ a + b → FullPage P a p → FullPage P b q → EachUp (FullPage P 12) (mend_page p e q).0
-    mend_page-full (page c xs) e (page d ys) a b h₁ h₂ h₃ v w = go (ltb (length xs) 12) (ltb (length ys) 12) refl refl
+    mend_page-full (page c xs) e (page d ys) a b h₁ h₂ h₃ v w =
+        mended (λ r. EachUp (FullPage P 12) r.0) (page c xs) e (page d ys) (λ k. even-full c xs e d ys v' w' (inl (omega arith))) (λ k l. even-full c xs e d ys v' w' (inr (omega arith)))
+        (λ k l. ((k, v.1, v.2, v.3), (l, w.1, w.2, w.3)))
       where
         v' : Within P 11 24 (page c xs)
         v' = within_wider P (page c xs) a 24 11 24 h₁ (omega arith) v
 
         w' : Within P 11 24 (page d ys)
         w' = within_wider P (page d ys) b 24 11 24 h₂ (omega arith) w
-
-        u : Up K (Page K S)
-        u = even (page c xs) e (page d ys)
-
-        go : (s t : Bool) → ltb (length xs) 12 ≡ s → ltb (length ys) 12 ≡ t → EachUp (FullPage P 12) (cond {A = Up K (Page K S) × ℕ} s (u, tops u) (cond t (u, tops u) (two (page c xs) e (page d ys), 1))).0
-        go true t i j = let k = ltb-true (length xs) 12 i in even-full c xs e d ys v' w' (inl (omega arith))
-        go false true i j = let k = ltb-false (length xs) 12 i in let l = ltb-true (length ys) 12 j in even-full c xs e d ys v' w' (inr (omega arith))
-        go false false i j = ((ltb-false (length xs) 12 i, v.1, v.2, v.3), (ltb-false (length ys) 12 j, w.1, w.2, w.3))
 
   -- a subtree that may be short by one
   abbrev pub Near : (n : ℕ) → Sub K n → Type 0

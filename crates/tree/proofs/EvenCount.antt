@@ -1,5 +1,6 @@
 -- Two neighbours evened out or joined: both are new.
 use Rattle.std.proofs.Common.{◌≡◌, ℕ, zero, suc, pred, ◌+◌, ◌-◌, ◌<◌, ◌≤◌, Bool, true, false, cond, ltb, leb, ◌⊎◌, List, [], ◌∷◌, ◌++◌, length, take, drop, refl, ap, ap₂, inl, inr, arith}
+use Rattle.tree.proofs.Mend.{mended}
 use Rattle.tree.proofs.Fill.{EachUp}
 use Rattle.std.proofs.Math.Seq.{take-append-add, drop-append-add}
 use Rattle.std.proofs.lemmas.List.{take-append-drop, length-take, length-drop, length-append, take-append-le, drop-append-le}
@@ -125,41 +126,19 @@ module _ {K : Type 0} (cmp : K → K → Cmp) (o : (n : ℕ) → Sub K n → Boo
   evened n i j p e q a b h = let r = even-pages (ψ n) p e q in let s = each_counts n (even p e q) h in (omega arith, each-some (Fresh (suc n)) (even p e q) h)
 
   pub mend-right : (n i : ℕ) (p : Sub K (suc n)) (e : Entry K) (q : Sub K (suc n)) → Changed n p i → FullPage (Full K n) 11 p → Held K o (suc n) q → Away (suc n) e → Mended n i (mend_page p e q)
-  mend-right n i (page c xs) e (page d ys) h f k w = go (ltb (length xs) 12) (ltb (length ys) 12) refl refl
-    where
-      p : Sub K (suc n)
-      p = page c xs
-
-      q : Sub K (suc n)
-      q = page d ys
-
-      u : Up K (Sub K (suc n))
-      u = even (page c xs) e (page d ys)
-
-      go : (a b : Bool) → ltb (length xs) 12 ≡ a → ltb (length ys) 12 ≡ b → Mended n i (cond {A = Up K (Sub K (suc n)) × ℕ} a (u, tops u) (cond b (u, tops u) (two p e q, 1)))
-      go true b s t =
-          let l = ltb-true (length xs) 12 s in
-          let r = evened n i 0 p e q h.0 (held_one n 12 q k.0 k.1) (even-right-new n c xs e d ys (omega (arith, f.0)) k.0.0 (marks.own n d ys k.1.0) w) in
-          (omega (arith, r.0), r.1)
-      go false true s t = let l = ltb-true (length ys) 12 t in absurd (omega (arith, k.0.0))
-      go false false s t = let a = new-counts cmp o home n p h.1 in let b = held_none cmp o home (suc n) q k in (omega (arith, h.0), inl h.1)
+  mend-right n i (page c xs) e (page d ys) h f k w =
+      mended (Mended n i) (page c xs) e (page d ys)
+      (λ l.
+        let r = evened n i 0 (page c xs) e (page d ys) h.0 (held_one n 12 (page d ys) k.0 k.1) (even-right-new n c xs e d ys (omega (arith, f.0)) k.0.0 (marks.own n d ys k.1.0) w) in
+        (omega (arith, r.0), r.1))
+      (λ g l. absurd (omega (arith, k.0.0)))
+      (λ g l. let a = new-counts cmp o home n (page c xs) h.1 in let b = held_none cmp o home (suc n) (page d ys) k in (omega (arith, h.0), inl h.1))
 
   pub mend-left : (n i : ℕ) (p : Sub K (suc n)) (e : Entry K) (q : Sub K (suc n)) → Held K o (suc n) p → Changed n q i → FullPage (Full K n) 11 q → Away (suc n) e → Mended n i (mend_page p e q)
-  mend-left n i (page c xs) e (page d ys) k h f w = go (ltb (length xs) 12) (ltb (length ys) 12) refl refl
-    where
-      p : Sub K (suc n)
-      p = page c xs
-
-      q : Sub K (suc n)
-      q = page d ys
-
-      u : Up K (Sub K (suc n))
-      u = even (page c xs) e (page d ys)
-
-      go : (a b : Bool) → ltb (length xs) 12 ≡ a → ltb (length ys) 12 ≡ b → Mended n i (cond {A = Up K (Sub K (suc n)) × ℕ} a (u, tops u) (cond b (u, tops u) (two p e q, 1)))
-      go true b s t = let l = ltb-true (length xs) 12 s in absurd (omega (arith, k.0.0))
-      go false true s t =
-          let l = ltb-true (length ys) 12 t in
-          let r = evened n 0 i p e q (held_one n 12 p k.0 k.1) h.0 (even-left-new n c xs e d ys k.0.0 (omega (arith, f.0)) (marks.own n c xs k.1.0) w) in
-          (omega (arith, r.0), r.1)
-      go false false s t = let a = new-counts cmp o home n q h.1 in let b = held_none cmp o home (suc n) p k in (omega (arith, h.0), inr h.1)
+  mend-left n i (page c xs) e (page d ys) k h f w =
+      mended (Mended n i) (page c xs) e (page d ys)
+      (λ l. absurd (omega (arith, k.0.0)))
+      (λ g l.
+        let r = evened n 0 i (page c xs) e (page d ys) (held_one n 12 (page c xs) k.0 k.1) h.0 (even-left-new n c xs e d ys k.0.0 (omega (arith, f.0)) (marks.own n c xs k.1.0) w) in
+        (omega (arith, r.0), r.1))
+      (λ g l. let a = new-counts cmp o home n (page d ys) h.1 in let b = held_none cmp o home (suc n) (page c xs) k in (omega (arith, h.0), inr h.1))

@@ -5,6 +5,7 @@ pub mod Insert
 pub mod Fill
 pub mod Count
 pub mod Pages
+pub mod Mend
 pub mod Present
 pub mod Delete
 pub mod Drain
