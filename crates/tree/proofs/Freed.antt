@@ -50,36 +50,28 @@ module _ (K : Type 0) (free : ℕ → ℕ) (r m : ℕ) (distinct : (i j : ℕ) �
   up : (i j : ℕ) → i ≤ j → (b : ℕ) → O i b → O j b
   up i j l b h = off-more K free r m distinct apart i j l b h
 
-  kept_more : (d d' : Shown K) (i : ℕ) → ((b : ℕ) → O 0 b → d b ≡ d₀ b) → ((b : ℕ) → O i b → d' b ≡ d b) → (b : ℕ) → O 0 b → d' b ≡ d₀ b
-  kept_more d d' i k p b h = p b (up 0 i (omega arith) b h) ∙ k b h
-
   module _ (n : ℕ) (from : (s : Sub K n) (d : Shown K) (i : ℕ) → ((b : ℕ) → O 0 b → d b ≡ d₀ b) → i + unmarked K o n s ≤ m → let w = lay free o place n s d i in F w.1 n w.0) where
-    lays : (s : Sub K n) (d : Shown K) (i : ℕ) → ((b : ℕ) → O 0 b → d b ≡ d₀ b) → i + unmarked K o n s ≤ m →
-        let w = lay free o place n s d i in (load w.1 n w.0 ≡ s) × (w.2 ≡ i + unmarked K o n s) × ((b : ℕ) → O i b → w.1 b ≡ d b) × Sectors (O w.2) w.1 n w.0
-    lays s d i k l = laid K free r m distinct apart o place d₀ marked n s d i k l
+    -- a child before those that are laid behind it
+    first-from : (s : Sub K n) (xs : List (Item K (Sub K n))) →
+        ((d : Shown K) (i : ℕ) → ((b : ℕ) → O 0 b → d b ≡ d₀ b) → i + pages_rest (unmarked K o n) xs ≤ m → let w = lay_rest (lay free o place n) xs d i in All (Child (F w.1 n)) w.0) →
+        (d : Shown K) (i : ℕ) → ((b : ℕ) → O 0 b → d b ≡ d₀ b) → i + sum_children (unmarked K o n) (page s xs) ≤ m → let w = lay_page (lay free o place n) (page s xs) d i in Each (F w.1 n) w.0
+    first-from s xs rests d i k l =
+        let u = lay free o place n s d i in
+        let p = laid K free r m distinct apart o place d₀ marked n s d i k (omega arith) in
+        let pu = p.1 in
+        let keep : (b : ℕ) → O 0 b → u.1 b ≡ d₀ b = λ b h. p.2 b (up 0 i (omega arith) b h) ∙ k b h in
+        let w = lay_rest (lay free o place n) xs u.1 u.2 in
+        let q = rest-laid K free r m distinct apart o place d₀ marked n (laid K free r m distinct apart o place d₀ marked n) xs u.1 u.2 keep (omega arith) in
+        (from-stays free m o Old u.1 w.1 (O u.2) q.2 n u.0 p.3 (from s d i k (omega arith)), rests u.1 u.2 keep (omega arith))
 
     rest_from : (xs : List (Item K (Sub K n))) (d : Shown K) (i : ℕ) → ((b : ℕ) → O 0 b → d b ≡ d₀ b) → i + pages_rest (unmarked K o n) xs ≤ m →
         let w = lay_rest (lay free o place n) xs d i in All (Child (F w.1 n)) w.0
     rest_from [] d i k l = tt
-    rest_from (item e s ∷ xs) d i k l =
-        let u = lay free o place n s d i in
-        let p = lays s d i k (omega arith) in
-        let pu = p.1 in
-        let keep = kept_more d u.1 i k p.2 in
-        let w = lay_rest (lay free o place n) xs u.1 u.2 in
-        let q = rest-laid K free r m distinct apart o place d₀ marked n lays xs u.1 u.2 keep (omega arith) in
-        (from-stays free m o Old u.1 w.1 (O u.2) q.2 n u.0 p.3 (from s d i k (omega arith)), rest_from xs u.1 u.2 keep (omega arith))
+    rest_from (item e s ∷ xs) d i k l = first-from s xs (λ d i k l. rest_from xs d i k l) d i k l
 
-    page-from : (s : Sub K (suc n)) (d : Shown K) (i : ℕ) → ((b : ℕ) → O 0 b → d b ≡ d₀ b) → i + sum_children (unmarked K o n) s ≤ m →
+    pub page-from : (s : Sub K (suc n)) (d : Shown K) (i : ℕ) → ((b : ℕ) → O 0 b → d b ≡ d₀ b) → i + sum_children (unmarked K o n) s ≤ m →
         let w = lay_page (lay free o place n) s d i in Each (F w.1 n) w.0
-    page-from (page s xs) d i k l =
-        let u = lay free o place n s d i in
-        let p = lays s d i k (omega arith) in
-        let pu = p.1 in
-        let keep = kept_more d u.1 i k p.2 in
-        let w = lay_rest (lay free o place n) xs u.1 u.2 in
-        let q = rest-laid K free r m distinct apart o place d₀ marked n lays xs u.1 u.2 keep (omega arith) in
-        (from-stays free m o Old u.1 w.1 (O u.2) q.2 n u.0 p.3 (from s d i k (omega arith)), rest_from xs u.1 u.2 keep (omega arith))
+    page-from (page s xs) d i k l = first-from s xs (rest_from xs) d i k l
 
   lay-from : (n : ℕ) (s : Sub K n) (d : Shown K) (i : ℕ) → ((b : ℕ) → O 0 b → d b ≡ d₀ b) → i + unmarked K o n s ≤ m → let w = lay free o place n s d i in F w.1 n w.0
   lay-from zero s d i k l = λ j x t. absurd t
