@@ -26,6 +26,7 @@ pub mod Shared
 pub mod Places
 pub mod Stay
 pub mod Freed
+pub mod Replaced
 pub mod FreedInsert
 pub mod Balance
 pub mod FreedCount

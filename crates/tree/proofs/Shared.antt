@@ -1,4 +1,4 @@
--- Where the pages of an old tree stand, and a delete that leaves shared pages there.
+-- Where the pages of an old tree stand, and how many of a new tree are not of the old one.
 use Rattle.std.proofs.Common.{◌≡◌, ℕ, zero, suc, ◌+◌, ◌≤◌, Bool, true, false, cond, ◌&&◌, ◌||◌, ◌⊎◌, List, [], ◌∷◌, sym, refl, ap, ◌∙◌, subst, ap₂, inl, inr, arith}
 use Rattle.std.proofs.lemmas.Bool.{and_parts, or_cases, or_left, or_right, false≢true}
 use Rattle.tree.specs.Tree.{Item, item, Page, page, Sub, Tree, All, Child, pages_rest}
@@ -132,47 +132,3 @@ pub changed-below : {K : Type 0} (eq : K → K → Bool) → IsSame K eq → (t 
 changed-below {K} eq is t u l =
     sum_same (unmarked K (λ n s. has eq (suc t.over) t.root n s) u.over) (unmarked K (has_below eq t) u.over)
     (λ c. unmarked-same K (λ n s. has eq (suc t.over) t.root n s) (has_below eq t) u.over (λ n s i. has-below eq is t n s (omega arith)) u.over c (omega arith)) u.root
-
-pub replace-stores : (K : Type 0) → ReplaceStores K
-replace-stores K eq is free d n r u l ready = record { tree = ap (λ (z : Sub K (suc u.over)). record { over = u.over; root = z }) t; taken = taken; kept = λ b o. keep b (off-more K free r m ready.distinct ready.apart 0 w.2 (omega arith) b o) ∙ p.2 b o }
-  where
-    old : Tree K
-    old = loaded d n r
-
-    m : ℕ
-    m = changed eq (loaded d n r) u
-
-    o : (j : ℕ) → Sub K j → Bool
-    o = has_below eq (loaded d n r)
-
-    place : (j : ℕ) → Sub K j → ℕ
-    place j s = first_page eq d (λ b. has eq n (load d n b) j s) (λ b. where_is eq d n b j s) (d r)
-
-    marked : (j : ℕ) (s : Sub K (suc j)) → o (suc j) s ≡ true → (load d (suc j) (place (suc j) s) ≡ s) × Sectors (Off free r m 0) d (suc j) (place (suc j) s) × (unmarked K o (suc j) s ≡ 0)
-    marked j s e =
-        let h = page-at eq is d (Off free r m 0) n (suc j) s (λ b i k. where-at eq is d (Off free r m 0) n b (suc j) s i k) (d r) ready.off e in
-        (h.0, h.1, below_none eq is (loaded d n r) j s e)
-
-    w : Page K ℕ × Shown K × ℕ
-    w = lay_page (lay free o place u.over) u.root d 0
-
-    c : m ≡ sum_children (unmarked K o u.over) u.root
-    c = changed-below eq is (loaded d n r) u l
-
-    p : (map_page (load w.1 u.over) w.0 ≡ u.root) × (w.2 ≡ 0 + sum_children (unmarked K o u.over) u.root) × ((b : ℕ) → Off free r m 0 b → w.1 b ≡ d b) × Each (Sectors (Off free r m w.2) w.1 u.over) w.0
-    p = page-laid K free r m ready.distinct ready.apart o place d marked u.over (laid K free r m ready.distinct ready.apart o place d marked u.over) u.root d 0 (λ b h. refl) (omega (arith, c))
-
-    taken : w.2 ≡ m
-    taken = let y = p.1 in omega (arith, c)
-
-    keep : (b : ℕ) → Off free r m w.2 b → write w.1 r w.0 b ≡ w.1 b
-    keep b h = write-other w.1 r b w.0 h.1
-
-    t : load (write w.1 r w.0) (suc u.over) r ≡ u.root
-    t = rw (write_same w.1 r w.0)
-        (page-frames (load w.1 u.over) (load (write w.1 r w.0) u.over) (Sectors (Off free r m w.2) w.1 u.over)
-        (load-stays w.1 (write w.1 r w.0) (Off free r m w.2) (Off free r m w.2) (λ b h. h) keep u.over) w.0 p.3 ∙ p.0)
-
-pub delete-stores : {K : Type 0} (cmp : K → K → Cmp) → IsOrder K cmp → DeleteStores cmp
-delete-stores {K} cmp ord eq is free d n r k g ready =
-    replace-stores K eq is free d n r (delete cmp (loaded d n r) k).0 (delete-over cmp ord (loaded d n r) k) (subst (λ (z : ℕ). Ready free d n r z) (sym (delete-changes cmp ord eq is (loaded d n r) k g)) ready)
