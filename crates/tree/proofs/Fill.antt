@@ -78,7 +78,7 @@ module _ {K : Type 0} (cmp : K → K → Cmp) (ord : IsOrder K cmp) where
   ins-full zero x t h = (tt, tt)
   ins-full (suc n) x t h = fits-up (Full K n) (ins_page cmp (ins cmp n x) x t).0 (ins_page-full (Full K n) (ins cmp n x) x (λ c g. ins-full n x c g) 12 t h)
 
-  abbrev RootOk : Tree K → Type 0
+  abbrev pub RootOk : Tree K → Type 0
   RootOk t = FullPage (Full K t.over) (lowest t.over) t.root
 
   grow-full : (n : ℕ) (u : Up K (Sub K (suc n))) (k : ℕ) → Fits (Full K n) (lowest n) u → RootOk (grow n (u, k)).0

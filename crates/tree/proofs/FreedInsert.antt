@@ -1,5 +1,6 @@
 -- The sectors that a stored insert sets free.
 use Rattle.std.proofs.Common.{◌≡◌, ℕ, zero, suc, ◌+◌, ◌<◌, ◌≤◌, Bool, true, false, List, [], ◌∷◌, sym, refl, ◌∙◌, subst, inl, inr, arith}
+use Rattle.tree.proofs.Lists.{child_both}
 use Rattle.tree.proofs.Fill.{EachUp}
 use Rattle.std.proofs.lemmas.Bool.{or_right, or_parts}
 use Rattle.numbers.specs.Order.{Cmp, below, same, above, IsOrder}
@@ -43,12 +44,8 @@ module _ {K T : Type 0} (g : ℕ → T) (P : Page K T → Bool) (M : T → Type 
   marked-each (page c xs) h = (h.1, rest-each M g xs h.2)
 
 module _ {K : Type 0} (P Q : ℕ → Type 0) where
-  both_rest : (xs : List (Item K ℕ)) → All (Child P) xs → All (Child Q) xs → All (Child (λ c. P c × Q c)) xs
-  both_rest [] a b = tt
-  both_rest (item e d ∷ xs) a b = ((a.0, b.0), both_rest xs a.1 b.1)
-
   both : (p : Page K ℕ) → Each P p → Each Q p → Each (λ c. P c × Q c) p
-  both (page c xs) a b = ((a.0, b.0), both_rest xs a.1 b.1)
+  both (page c xs) a b = ((a.0, b.0), child_both P Q xs a.1 b.1)
 
 module _ {K : Type 0} (d : Shown K) (n : ℕ) (R : ℕ → ℕ → Type 0) where
   kids-rest : (xs : List (Item K ℕ)) → ((j x : ℕ) → SomeRest (λ b. Stands d n b j x) xs → R j x) → All (Child (λ b. (j x : ℕ) → Stands d n b j x → R j x)) xs

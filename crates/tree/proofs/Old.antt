@@ -5,18 +5,14 @@ use Rattle.numbers.specs.Order.{Cmp, IsOrder}
 use Rattle.tree.specs.Tree.{Entry, Item, item, page, Sub, at, All, Child, flat_rest, flat, Rises}
 use Rattle.tree.specs.Laws.{find}
 use Rattle.tree.specs.Fresh.{IsSame, any_rest, same_entry, same_rest, same_page, same_sub, has}
-use Rattle.tree.proofs.Lists.{rises-left, rises-right}
-use Rattle.tree.proofs.Marks.{Some, AtHome, SomeChild, Marked, New, Marks}
+use Rattle.tree.proofs.Lists.{rises-left, rises-right, child_map}
+use Rattle.tree.proofs.Marks.{Some, AtHome, SomeChild, Marked, New, Marks, EachChild, each-child}
 use Rattle.tree.proofs.Homes.{Each, each_map, home_in, home, home_same, home-first, home-later, home-own}
 
 module _ {K : Type 0} (o o' : (n : ℕ) → Sub K n → Bool) (more : (n : ℕ) (s : Sub K n) → o n s ≡ true → o' n s ≡ true) where
-  mutual-more : (n : ℕ) (f : (d : Sub K n) → Marked K o n d → Marked K o' n d) (xs : List (Item K (Sub K n))) → All (Child (Marked K o n)) xs → All (Child (Marked K o' n)) xs
-  mutual-more n f [] a = tt
-  mutual-more n f (item e d ∷ xs) a = (f d a.0, mutual-more n f xs a.1)
-
   marked_more : (n : ℕ) (t : Sub K n) → Marked K o n t → Marked K o' n t
   marked_more zero t h = tt
-  marked_more (suc n) (page c xs) h = (more (suc n) (page c xs) h.0, marked_more n c h.1, mutual-more n (λ d k. marked_more n d k) xs h.2)
+  marked_more (suc n) (page c xs) h = (more (suc n) (page c xs) h.0, marked_more n c h.1, child_map (Marked K o n) (Marked K o' n) (λ d k. marked_more n d k) xs h.2)
 
 module _ {K : Type 0} (eq : K → K → Bool) (is : IsSame K eq) where
   pub entry-exact : (e g : Entry K) → same_entry eq e g ≡ true → e ≡ g
@@ -67,14 +63,7 @@ module _ {K : Type 0} (eq : K → K → Bool) (is : IsSame K eq) where
       (inc c (or_left _ _ (same-has m n d c q.0)), rest_has m n P ys xs (λ x k. inc x (or_right _ _ k)) q.1)
 
   abbrev pub HasAll : (M : ℕ) (t : Sub K M) (n : ℕ) → Sub K (suc (suc n)) → Type 0
-  HasAll M t n (page c xs) = (has eq M t (suc n) c ≡ true) × All (Child (λ d. has eq M t (suc n) d ≡ true)) xs
-
-  all_more : (m : ℕ) (d : Sub K m) (M : ℕ) (t : Sub K M) (n : ℕ) (p : Sub K (suc (suc n))) → ((s : Sub K (suc n)) → has eq m d (suc n) s ≡ true → has eq M t (suc n) s ≡ true) → HasAll m d n p → HasAll M t n p
-  all_more m d M t n (page c xs) f h = (f c h.0, go xs h.1)
-    where
-      go : (xs : List (Item K (Sub K (suc n)))) → All (Child (λ x. has eq m d (suc n) x ≡ true)) xs → All (Child (λ x. has eq M t (suc n) x ≡ true)) xs
-      go [] a = tt
-      go (item e x ∷ xs) a = (f x a.0, go xs a.1)
+  HasAll M t n p = EachChild (λ d. has eq M t (suc n) d ≡ true) p
 
   -- a page found in one of the children ys, of which each is closed
   any-closed : (m M : ℕ) (t : Sub K M) (n : ℕ) (p : Sub K (suc (suc n))) (ys : List (Item K (Sub K m))) → ((d : Sub K m) → has eq m d (suc (suc n)) p ≡ true → HasAll m d n p) →
@@ -84,7 +73,7 @@ module _ {K : Type 0} (eq : K → K → Bool) (is : IsSame K eq) where
       go (any-closed m M t n p ys each (λ s k. inc s (or_right (has eq m d (suc n) s) (any_rest (λ d. has eq m d (suc n) s) ys) k))) (or_cases (has eq m d (suc (suc n)) p) (any_rest (λ d. has eq m d (suc (suc n)) p) ys) h)
     where
       go : (any_rest (λ d. has eq m d (suc (suc n)) p) ys ≡ true → HasAll M t n p) → (has eq m d (suc (suc n)) p ≡ true) ⊎ (any_rest (λ d. has eq m d (suc (suc n)) p) ys ≡ true) → HasAll M t n p
-      go r (inl h) = all_more m d M t n p (λ s k. inc s (or_left (has eq m d (suc n) s) (any_rest (λ d. has eq m d (suc n) s) ys) k)) (each d h)
+      go r (inl h) = each-child _ _ (λ s k. inc s (or_left (has eq m d (suc n) s) (any_rest (λ d. has eq m d (suc n) s) ys) k)) p (each d h)
       go r (inr h) = r h
 
   pub has-closed : (m : ℕ) (t : Sub K m) (n : ℕ) (p : Sub K (suc (suc n))) → has eq m t (suc (suc n)) p ≡ true → HasAll m t n p
@@ -94,7 +83,7 @@ module _ {K : Type 0} (eq : K → K → Bool) (is : IsSame K eq) where
     where
       under : ((b : Sub K m) → has eq m b (suc (suc n)) (page c xs) ≡ true → HasAll m b n (page c xs)) → (has eq m d (suc (suc n)) (page c xs) ≡ true) ⊎ (any_rest (λ d. has eq m d (suc (suc n)) (page c xs)) ys ≡ true) →
           HasAll (suc m) (page d ys) n (page c xs)
-      under r (inl h) = all_more m d (suc m) (page d ys) n (page c xs) (λ s k. in-first m d ys (suc n) s k) (r d h)
+      under r (inl h) = each-child _ _ (λ s k. in-first m d ys (suc n) s k) (page c xs) (r d h)
       under r (inr h) = any-closed m (suc m) (page d ys) n (page c xs) ys r (λ s k. in_rest m d ys (suc n) s k) h
 
       go : ((b : Sub K m) → has eq m b (suc (suc n)) (page c xs) ≡ true → HasAll m b n (page c xs)) →

@@ -7,7 +7,7 @@ use Rattle.numbers.specs.Order.{Cmp, below, same, above}
 use Rattle.tree.specs.Tree.{Entry, Item, item, Page, page, Sub, pick, Found, at, look_in, look_page, look, All, Child}
 use Rattle.tree.specs.Insert.{Up, one, two, tops, splice, before, halves, cut, fit, grow, ins_in, ins_page, ins}
 use Rattle.tree.specs.Stored.{Shown, map_rest, map_page, map_up, load, loaded, write, Each, Sectors, found, down, onward, step_in, step, seek, Off, store, store_root, Way, here, into, beyond, way_in, way, around, ins_stored, SeekLooks, InsertStores}
-use Rattle.tree.proofs.Lists.{all_left, all_right}
+use Rattle.tree.proofs.Lists.{all_left, all_right, child_map}
 
 -- SEARCH
 module _ {K T : Type 0} (cmp : K → K → Cmp) (g : ℕ → T) (f : ℕ → Found) (h : T → Found) (k : K) (agree : (a : ℕ) → f a ≡ h (g a)) where
@@ -39,12 +39,8 @@ module _ {K T : Type 0} (g g' : ℕ → T) (B : ℕ → Type 0) (agree : (a : �
   pub page-frames : (p : Page K ℕ) → Each B p → map_page g' p ≡ map_page g p
   page-frames (page c xs) h = ap₂ page (agree c h.0) (rest-frames xs h.1)
 
-child-map : {K : Type 0} (B C : ℕ → Type 0) (xs : List (Item K ℕ)) → ((a : ℕ) → B a → C a) → All (Child B) xs → All (Child C) xs
-child-map B C [] f h = tt
-child-map B C (item e d ∷ xs) f h = (f d h.0, child-map B C xs f h.1)
-
 pub page-map : {K : Type 0} (B C : ℕ → Type 0) → ((a : ℕ) → B a → C a) → (p : Page K ℕ) → Each B p → Each C p
-page-map B C f (page c xs) h = (f c h.0, child-map B C xs f h.1)
+page-map B C f (page c xs) h = (f c h.0, child_map B C f xs h.1)
 
 module _ {K : Type 0} (d d' : Shown K) (B C : ℕ → Type 0) (more : (b : ℕ) → B b → C b) (keep : (b : ℕ) → B b → d' b ≡ d b) where
   pub load-stays : (n a : ℕ) → Sectors B d n a → load d' n a ≡ load d n a
@@ -149,7 +145,7 @@ module _ {K T : Type 0} (cmp : K → K → Cmp) (g : ℕ → T) (B : ℕ → Typ
 
   spliced : (c : ℕ) (xs : List (Item K ℕ)) → All (Child B) xs → Around c (λ u. splice u xs) (splice (f (g c)).0 (map_rest g xs))
   unfolding Around
-  spliced c xs a g' C same' up u i j = (splice-map g' u xs ∙ ap₂ splice i (rest-frames g g' B same' xs a), splice-each C u xs j (child-map B C xs up a))
+  spliced c xs a g' C same' up u i j = (splice-map g' u xs ∙ ap₂ splice i (rest-frames g g' B same' xs a), splice-each C u xs j (child_map B C up xs a))
 
   pub way_in-same : (c : ℕ) (xs : List (Item K ℕ)) → B c → All (Child B) xs → Same (way_in cmp x c xs) (ins_in cmp f x (g c) (map_rest g xs))
   way_in-same c [] h a = (refl, h, spliced c [] tt)

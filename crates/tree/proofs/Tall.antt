@@ -1,5 +1,6 @@
 -- Tall trees: they are good, and reach the most changed pages.
 use Rattle.std.proofs.Common.{◌≡◌, ℕ, zero, suc, ◌+◌, ◌<◌, ◌≤◌, eqb, List, [], ◌∷◌, ◌++◌, length, sym, refl, ap, ◌∙◌, subst, arith}
+use Rattle.tree.proofs.Lists.{not-found}
 use Rattle.std.proofs.lemmas.Bool.{eqb-true, eq-eqb}
 use Rattle.numbers.specs.Order.{below, cmpℕ, IsOrder}
 use Rattle.numbers.proofs.Ordered.{turnℕ, sameℕ, transℕ, lessℕ}
@@ -97,7 +98,7 @@ sparse-good = record {
 }
 
 not_there : lookup cmpℕ brimming 0 ≡ at 0 → ⊥
-not_there h = let z : ◌≡◌ {A = ℕ} 0 1 = cc in absurd (omega arith)
+not_there h = not-found 0 h
 
 pub reached : Reached
 reached = record {
