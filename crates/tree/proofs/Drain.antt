@@ -9,7 +9,7 @@ use Rattle.tree.specs.Insert.{Up, one, two, tops, splice, before, cut}
 use Rattle.tree.specs.Delete.{share, even, mend_page, mend, Got, none, got, max_last, past, max_in, fill, back, del_in, take_max, del, shrink, if_found, delete}
 use Rattle.tree.specs.Laws.{DeleteKeeps}
 use Rattle.tree.proofs.Lists.{all_join, without-rises}
-use Rattle.tree.proofs.Fill.{Within, EachUp, Fits, splice-full, before-full, within_wider, cut-full, fits-up}
+use Rattle.tree.proofs.Fill.{Within, EachUp, Fits, splice-full, before-full, within_wider, cut-full, fits-up, RootOk}
 use Rattle.tree.proofs.Delete.{delete-takes}
 
 module _ {K : Type 0} (cmp : K → K → Cmp) (ord : IsOrder K cmp) where
@@ -130,9 +130,6 @@ module _ {K : Type 0} (cmp : K → K → Cmp) (ord : IsOrder K cmp) where
   del_ok zero k t h = tt
   del_ok (suc n) k (page c []) h = absurd (omega arith)
   del_ok (suc n) k (page c (x ∷ xs)) h = del-page n k (λ d i. del_ok n k d i) 11 c x xs h
-
-  abbrev RootOk : Tree K → Type 0
-  RootOk t = FullPage (Full K t.over) (lowest t.over) t.root
 
   lowest-le : (n : ℕ) → lowest n ≤ 12
   lowest-le zero = omega arith

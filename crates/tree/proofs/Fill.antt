@@ -58,6 +58,9 @@ module _ {K : Type 0} where
   fits-up P (one p) h = h
   fits-up P (two p e q) h = h
 
+  abbrev pub RootOk : Tree K → Type 0
+  RootOk t = FullPage (Full K t.over) (lowest t.over) t.root
+
 module _ {K : Type 0} (cmp : K → K → Cmp) (ord : IsOrder K cmp) where
   module _ {S : Type 0} (P : S → Type 0) where
     module _ (f : S → Up K S × ℕ) (x : Entry K) (right : (c : S) → P c → EachUp P (f c).0) where
@@ -77,9 +80,6 @@ module _ {K : Type 0} (cmp : K → K → Cmp) (ord : IsOrder K cmp) where
   pub ins-full : (n : ℕ) (x : Entry K) (t : Sub K n) → Full K n t → EachUp (Full K n) (ins cmp n x t).0
   ins-full zero x t h = (tt, tt)
   ins-full (suc n) x t h = fits-up (Full K n) (ins_page cmp (ins cmp n x) x t).0 (ins_page-full (Full K n) (ins cmp n x) x (λ c g. ins-full n x c g) 12 t h)
-
-  abbrev pub RootOk : Tree K → Type 0
-  RootOk t = FullPage (Full K t.over) (lowest t.over) t.root
 
   grow-full : (n : ℕ) (u : Up K (Sub K (suc n))) (k : ℕ) → Fits (Full K n) (lowest n) u → RootOk (grow n (u, k)).0
   grow-full n (one p) k h = h

@@ -11,7 +11,7 @@ use Rattle.tree.proofs.Drain.{delete-over}
 use Rattle.tree.proofs.Stored.{load-stays, stored_at, write_same, write-other, off-more, off-new}
 use Rattle.tree.proofs.Laid.{rest-laid, page-laid, laid}
 use Rattle.tree.proofs.Places.{kid-map, kid-elim, one-level, one-sector}
-use Rattle.tree.proofs.Stay.{some-any, any_some, pull, stands-trans, sectors-sub, sectors-at, stands-back, stands-has, has-stands, first-stands, where-stands}
+use Rattle.tree.proofs.Stay.{some-any, stands-trans, sectors-sub, sectors-at, stands-back, stands-has, first-stands, where-stands}
 
 -- what is known of the sectors of a tree: old, or one of the free ones with a page that o does not mark
 module _ {K : Type 0} (free : ℕ → ℕ) (m : ℕ) (o : (n : ℕ) → Sub K n → Bool) (Old : ℕ → ℕ → Type 0) where
@@ -105,20 +105,23 @@ module _ {K : Type 0} (eq : K → K → Bool) (is : IsSame K eq) (d : Shown K) (
   pub root-has : (j a : ℕ) → UnderRoot d n r j a → has_below eq (loaded d n r) j (load d j a) ≡ true
   root-has j a s = some-any (λ c. has eq n c j (load d j a)) (load d n) (d r) (kid-map (λ c. Stands d n c j a) (λ c. has eq n (load d n c) j (load d j a) ≡ true) (λ c t. stands-has eq is d j a n c t) (d r) s)
 
+  -- where a page below it is looked for it stands
+  pub root-place : (j : ℕ) (s : Sub K j) → has_below eq (loaded d n r) j s ≡ true → let a = first_page eq d (λ b. has eq n (load d n b) j s) (λ b. where_is eq d n b j s) (d r) in UnderRoot d n r j a × (load d j a ≡ s)
+  root-place j s e = first-stands eq is d j s n (λ b h. where-stands eq is d j s n b h) (d r) e
+
   pub has-root : (j : ℕ) (s : Sub K j) → has_below eq (loaded d n r) j s ≡ true → (a : ℕ) × UnderRoot d n r j a × (load d j a ≡ s)
-  has-root j s e = pull (λ c a. Stands d n c j a) (λ a. load d j a ≡ s) (d r)
-      (kid-map (λ c. has eq n (load d n c) j s ≡ true) (λ c. (a : ℕ) × Stands d n c j a × (load d j a ≡ s)) (λ c h. has-stands eq is d j s n c h) (d r) (any_some (λ c. has eq n c j s) (load d n) (d r) e))
+  has-root j s e = let t = root-place j s e in (first_page eq d (λ b. has eq n (load d n b) j s) (λ b. where_is eq d n b j s) (d r), t.0, t.1)
 
--- the old tree's sectors, where all that are off the root and the free ones are kept
-module _ {K : Type 0} (free : ℕ → ℕ) (d : Shown K) (n r : ℕ) (d' : Shown K) (m : ℕ) (off : Each (Sectors (Off free r m 0) d n) (d r)) (kept : (b : ℕ) → Off free r m 0 b → d' b ≡ d b) where
-  old-off : (j a : ℕ) → UnderRoot d n r j a → Sectors (Off free r m 0) d j a
-  old-off j a s = kid-elim (Sectors (Off free r m 0) d n) (λ c. Stands d n c j a) (Sectors (Off free r m 0) d j a) (λ c i t. sectors-sub (Off free r m 0) d j a n c i t) (d r) off s
+-- the sectors of an old tree, all of them as B says
+module _ {K : Type 0} (B : ℕ → Type 0) (d : Shown K) (n r : ℕ) (off : Each (Sectors B d n) (d r)) where
+  pub old-off : (j a : ℕ) → UnderRoot d n r j a → Sectors B d j a
+  old-off j a s = kid-elim (Sectors B d n) (λ c. Stands d n c j a) (Sectors B d j a) (λ c i t. sectors-sub B d j a n c i t) (d r) off s
 
-  pub off_at : (j a : ℕ) → UnderRoot d n r j a → Off free r m 0 a
-  off_at j a s = kid-elim (Sectors (Off free r m 0) d n) (λ c. Stands d n c j a) (Off free r m 0 a) (λ c i t. sectors-at (Off free r m 0) d j a n c i t) (d r) off s
+  pub off_at : (j a : ℕ) → UnderRoot d n r j a → B a
+  off_at j a s = kid-elim (Sectors B d n) (λ c. Stands d n c j a) (B a) (λ c i t. sectors-at B d j a n c i t) (d r) off s
 
-  pub old-load : (j a : ℕ) → UnderRoot d n r j a → load d' j a ≡ load d j a
-  old-load j a s = load-stays d d' (Off free r m 0) (Off free r m 0) (λ b k. k) kept j a (old-off j a s)
+  pub old-load : (d' : Shown K) → ((b : ℕ) → B b → d' b ≡ d b) → (j a : ℕ) → UnderRoot d n r j a → load d' j a ≡ load d j a
+  old-load d' kept j a s = load-stays d d' B B (λ b k. k) kept j a (old-off j a s)
 
 -- what is known of every sector of the new tree tells which are set free
 module _ {K : Type 0} (cmp : K → K → Cmp) (ord : IsOrder K cmp) (eq : K → K → Bool) (is : IsSame K eq) (free : ℕ → ℕ) (d : Shown K) (n r : ℕ) (d' : Shown K) (u : Tree K) (m : ℕ)
@@ -140,8 +143,8 @@ module _ {K : Type 0} (cmp : K → K → Cmp) (ord : IsOrder K cmp) (eq : K → 
           go : Known free m (has_below eq (loaded d n r)) (λ j x. UnderRoot d n r j x) d' i a → has_below eq u j (load d j a) ≡ true
           go (inl k) =
               let h : has_below eq u i (load d' i a) ≡ true = subst (λ (z : Tree K). has_below eq z i (load d' i a) ≡ true) tree (root-has eq is d' u.over r i a t) in
-              subst (λ (z : ℕ). has_below eq u z (load d z a) ≡ true) (one-level cmp ord d n r good i j a k s) (subst (λ (z : Sub K i). has_below eq u i z ≡ true) (old-load free d n r d' m off kept i a k) h)
-          go (inr (q, l, e, f)) = absurd ((off_at free d n r d' m off kept j a s).0 q (omega arith) l e)
+              subst (λ (z : ℕ). has_below eq u z (load d z a) ≡ true) (one-level cmp ord d n r good i j a k s) (subst (λ (z : Sub K i). has_below eq u i z ≡ true) (old-load (Off free r m 0) d n r off d' kept i a k) h)
+          go (inr (q, l, e, f)) = absurd ((off_at (Off free r m 0) d n r off j a s).0 q (omega arith) l e)
 
       stays : (j a : ℕ) → UnderRoot d n r j a → has_below eq u j (load d j a) ≡ true → UnderRoot d' u.over r j a
       stays j a s h = go v.0 v.1 v.2 (from j v.0 v.1)
@@ -150,7 +153,7 @@ module _ {K : Type 0} (cmp : K → K → Cmp) (ord : IsOrder K cmp) (eq : K → 
           v = has-root eq is d' u.over r j (load d j a) (subst (λ (z : Tree K). has_below eq z j (load d j a) ≡ true) (sym tree) h)
 
           go : (b : ℕ) → UnderRoot d' u.over r j b → load d' j b ≡ load d j a → Known free m (has_below eq (loaded d n r)) (λ j x. UnderRoot d n r j x) d' j b → UnderRoot d' u.over r j a
-          go b t e (inl k) = subst (λ (z : ℕ). UnderRoot d' u.over r j z) (sym (one-sector cmp ord d n r good j a b s k (sym e ∙ old-load free d n r d' m off kept j b k))) t
+          go b t e (inl k) = subst (λ (z : ℕ). UnderRoot d' u.over r j z) (sym (one-sector cmp ord d n r good j a b s k (sym e ∙ old-load (Off free r m 0) d n r off d' kept j b k))) t
           go b t e (inr (q, l, i, f)) =
               let y : has_below eq (loaded d n r) j (load d j a) ≡ true = root-has eq is d n r j a s in
               let x : has_below eq (loaded d n r) j (load d j a) ≡ false = subst (λ (z : Sub K j). has_below eq (loaded d n r) j z ≡ false) e f in

@@ -26,8 +26,8 @@ module _ {K : Type 0} (cmp : K → K → Cmp) (ord : IsOrder K cmp) (free : ℕ 
   agree j x t = go (from j x t)
     where
       go : Known free m o (λ j x. UnderRoot d n r j x) d' j x → within x (spots_page (spots d n) (d r)) ≡ o j (load d' j x)
-      go (inl k) = mem-within x (spots_page (spots d n) (d r)) (under-spot d x n r j k) ∙ sym (ap (o j) (old-load free d n r d' m off kept j x k) ∙ old j x k)
-      go (inr (i, l, e, f)) = none_within x (spots_page (spots d n) (d r)) (λ s. let u = spot-under d x n r s in (off_at free d n r d' m off kept u.0 x u.1).0 i (omega arith) l e) ∙ sym f
+      go (inl k) = mem-within x (spots_page (spots d n) (d r)) (under-spot d x n r j k) ∙ sym (ap (o j) (old-load (Off free r m 0) d n r off d' kept j x k) ∙ old j x k)
+      go (inr (i, l, e, f)) = none_within x (spots_page (spots d n) (d r)) (λ s. let u = spot-under d x n r s in (off_at (Off free r m 0) d n r off u.0 x u.1).0 i (omega arith) l e) ∙ sym f
 
   balances : pages (loaded d n r) + m ≡ pages (loaded d' n' r) + set_free d n r d' n'
   balances =

@@ -8,11 +8,11 @@ use Rattle.tree.specs.Stored.{Shown, map_page, load, loaded, write, Each, Sector
 use Rattle.tree.proofs.Changes.{delete-changes}
 use Rattle.tree.proofs.Drain.{delete-over}
 use Rattle.tree.proofs.Stored.{page-frames, load-stays, write_same, write-other, off-more}
-use Rattle.tree.proofs.Laid.{page-laid, laid}
-use Rattle.tree.proofs.Shared.{page-at, where-at, below_none, changed-below}
+use Rattle.tree.proofs.Laid.{PageLaid, page-laid, laid}
+use Rattle.tree.proofs.Shared.{below_none, changed-below}
 use Rattle.tree.proofs.Places.{kid-map, kid-elim}
-use Rattle.tree.proofs.Stay.{stands-trans, first-stands, where-stands}
-use Rattle.tree.proofs.Freed.{Known, From, from-page, page-from, lay-from, frees}
+use Rattle.tree.proofs.Stay.{stands-trans}
+use Rattle.tree.proofs.Freed.{Known, From, from-page, page-from, lay-from, root-place, old-off, frees}
 
 module _ (K : Type 0) (eq : K → K → Bool) (is : IsSame K eq) (free : ℕ → ℕ) (d : Shown K) (n r : ℕ) (u : Tree K) (l : u.over ≤ n) (ready : Ready free d n r (changed eq (loaded d n r) u)) where
   -- the free sectors taken
@@ -31,11 +31,11 @@ module _ (K : Type 0) (eq : K → K → Bool) (is : IsSame K eq) (free : ℕ →
 
   marked : (j : ℕ) (s : Sub K (suc j)) → o (suc j) s ≡ true → (load d (suc j) (place (suc j) s) ≡ s) × Sectors (Off free r m 0) d (suc j) (place (suc j) s) × (unmarked K o (suc j) s ≡ 0)
   marked j s e =
-      let h = page-at eq is d (Off free r m 0) n (suc j) s (λ b i k. where-at eq is d (Off free r m 0) n b (suc j) s i k) (d r) ready.off e in
-      (h.0, h.1, below_none eq is (loaded d n r) j s e)
+      let t = root-place eq is d n r (suc j) s e in
+      (t.1, old-off (Off free r m 0) d n r ready.off (suc j) (place (suc j) s) t.0, below_none eq is (loaded d n r) j s e)
 
   placed : (j : ℕ) (s : Sub K (suc j)) → o (suc j) s ≡ true → (i x : ℕ) → Stands d (suc j) (place (suc j) s) i x → Old i x
-  placed j s e i x t = kid-map (λ b. Stands d n b (suc j) (place (suc j) s)) (λ b. Stands d n b i x) (λ b v. stands-trans d (suc j) (place (suc j) s) i x t n b v) (d r) (first-stands eq is d (suc j) s n (λ b h. where-stands eq is d (suc j) s n b h) (d r) e)
+  placed j s e i x t = kid-map (λ b. Stands d n b (suc j) (place (suc j) s)) (λ b. Stands d n b i x) (λ b v. stands-trans d (suc j) (place (suc j) s) i x t n b v) (d r) (root-place eq is d n r (suc j) s e).0
 
   -- the new root's page, before it is written
   abbrev w : Page K ℕ × Shown K × ℕ
@@ -44,7 +44,7 @@ module _ (K : Type 0) (eq : K → K → Bool) (is : IsSame K eq) (free : ℕ →
   c : m ≡ sum_children (unmarked K o u.over) u.root
   c = changed-below eq is (loaded d n r) u l
 
-  p : (map_page (load w.1 u.over) w.0 ≡ u.root) × (w.2 ≡ 0 + sum_children (unmarked K o u.over) u.root) × ((b : ℕ) → Off free r m 0 b → w.1 b ≡ d b) × Each (Sectors (Off free r m w.2) w.1 u.over) w.0
+  p : PageLaid K free r m ready.distinct ready.apart o place d marked u.over u.root d 0 w
   p = page-laid K free r m ready.distinct ready.apart o place d marked u.over (laid K free r m ready.distinct ready.apart o place d marked u.over) u.root d 0 (λ b h. refl) (omega (arith, c))
 
   keep : (b : ℕ) → Off free r m w.2 b → write w.1 r w.0 b ≡ w.1 b

@@ -1,4 +1,4 @@
--- Where the pages of an old tree stand, and how many of a new tree are not of the old one.
+-- Pages of an old tree: the same page is one page, and below a page that is old no page is new.
 use Rattle.std.proofs.Common.{◌≡◌, ℕ, zero, suc, ◌+◌, ◌≤◌, Bool, true, false, cond, ◌&&◌, ◌||◌, ◌⊎◌, List, [], ◌∷◌, sym, refl, ap, ◌∙◌, subst, ap₂, inl, inr, arith}
 use Rattle.std.proofs.lemmas.Bool.{and_parts, or_cases, or_left, or_right, false≢true}
 use Rattle.tree.specs.Tree.{Item, item, Page, page, Sub, Tree, All, Child, pages_rest}
@@ -27,45 +27,6 @@ module _ {K : Type 0} (eq : K → K → Bool) (is : IsSame K eq) where
   sub-exact zero s t h = refl
   sub-exact (suc n) (page c xs) (page d ys) h =
       let p = and_parts (same_sub eq n n c d) (same_rest eq (same_sub eq n n) xs ys) h in ap₂ page (sub-exact n c d p.0) (rest-exact (same_sub eq n n) (λ a b e. sub-exact n a b e) xs ys p.1)
-
-  module _ (d : Shown K) (B : ℕ → Type 0) where
-    -- s stands at a
-    abbrev pub At : (n : ℕ) → Sub K n → ℕ → Type 0
-    At n s a = (load d n a ≡ s) × Sectors B d n a
-
-    same_at : (m n a : ℕ) (s : Sub K n) → Sectors B d m a → same_sub eq m n (load d m a) s ≡ true → At n s a
-    same_at m n a s h e = go (level-same eq is m n (load d m a) s e) s e
-      where
-        go : m ≡ n → (s : Sub K n) → same_sub eq m n (load d m a) s ≡ true → At n s a
-        go q = subst (λ (z : ℕ). (s : Sub K z) → same_sub eq m z (load d m a) s ≡ true → At z s a) q (λ s e. (sub-exact m (load d m a) s e, h))
-
-    first-at : (m n : ℕ) (s : Sub K n) (h : ℕ → Bool) (f : ℕ → ℕ) → ((b : ℕ) → Sectors B d m b → h b ≡ true → At n s (f b)) → (c : ℕ) (xs : List (Item K ℕ)) → Sectors B d m c → All (Child (Sectors B d m)) xs →
-        (g : Sub K m → Bool) → ((b : ℕ) → g (load d m b) ≡ h b) → (g (load d m c) || any_rest g (map_rest (load d m) xs)) ≡ true → At n s (first_in eq d h f c xs)
-    first-at m n s h f each c [] p a g same e = go (or_cases (g (load d m c)) false e)
-      where
-        go : (g (load d m c) ≡ true) ⊎ (false ≡ true) → At n s (f c)
-        go (inl e) = each c p (sym (same c) ∙ e)
-        go (inr e) = absurd (false≢true e)
-    first-at m n s h f each c (item e b ∷ xs) p a g same q = go (h c) refl (first-at m n s h f each b xs a.0 a.1 g same)
-      where
-        go : (o : Bool) → h c ≡ o → ((g (load d m b) || any_rest g (map_rest (load d m) xs)) ≡ true → At n s (first_in eq d h f b xs)) → At n s (cond o (f c) (first_in eq d h f b xs))
-        go true e r = each c p e
-        go false e r = r (rw (same c ∙ e) at q)
-
-    pub page-at : (m n : ℕ) (s : Sub K n) → ((b : ℕ) → Sectors B d m b → has eq m (load d m b) n s ≡ true → At n s (where_is eq d m b n s)) → (p : Page K ℕ) → Each (Sectors B d m) p →
-        any_child (λ c. has eq m c n s) (map_page (load d m) p) ≡ true → At n s (first_page eq d (λ b. has eq m (load d m b) n s) (λ b. where_is eq d m b n s) p)
-    page-at m n s each (page c xs) h e = first-at m n s (λ b. has eq m (load d m b) n s) (λ b. where_is eq d m b n s) each c xs h.0 h.1 (λ c. has eq m c n s) (λ b. refl) e
-
-    pub where-at : (m a n : ℕ) (s : Sub K n) → Sectors B d m a → has eq m (load d m a) n s ≡ true → At n s (where_is eq d m a n s)
-    where-at zero a n s h e = absurd (false≢true e)
-    where-at (suc m) a n s h e = go (same_sub eq (suc m) n (load d (suc m) a) s) refl (page-at m n s (λ b i j. where-at m b n s i j) (d a) h.1) e
-      where
-        go : (o : Bool) → same_sub eq (suc m) n (load d (suc m) a) s ≡ o →
-            (any_child (λ c. has eq m c n s) (map_page (load d m) (d a)) ≡ true → At n s (first_page eq d (λ b. has eq m (load d m b) n s) (λ b. where_is eq d m b n s) (d a))) →
-            (o || any_child (λ c. has eq m c n s) (map_page (load d m) (d a))) ≡ true →
-            At n s (cond o a (first_page eq d (λ b. has eq m (load d m b) n s) (λ b. where_is eq d m b n s) (d a)))
-        go true q r e = same_at (suc m) n a s h q
-        go false q r e = r e
 
   -- WITH A PAGE BELOW THE ROOT ITS CHILDREN ARE THERE TOO
   kids-rest : (n m : ℕ) (T : Sub K (suc n) → Type 0) (p : Sub K (suc (suc n))) (c : Sub K m) (ys : List (Item K (Sub K m))) →
