@@ -65,33 +65,34 @@ module _ {K : Type 0} (eq : K → K → Bool) (is : IsSame K eq) where
   abbrev pub HasAll : (M : ℕ) (t : Sub K M) (n : ℕ) → Sub K (suc (suc n)) → Type 0
   HasAll M t n p = EachChild (λ d. has eq M t (suc n) d ≡ true) p
 
-  -- a page found in one of the children ys, of which each is closed
-  any-closed : (m M : ℕ) (t : Sub K M) (n : ℕ) (p : Sub K (suc (suc n))) (ys : List (Item K (Sub K m))) → ((d : Sub K m) → has eq m d (suc (suc n)) p ≡ true → HasAll m d n p) →
-      ((s : Sub K (suc n)) → any_rest (λ d. has eq m d (suc n) s) ys ≡ true → has eq M t (suc n) s ≡ true) → any_rest (λ d. has eq m d (suc (suc n)) p) ys ≡ true → HasAll M t n p
-  any-closed m M t n p [] each inc h = absurd (false≢true h)
-  any-closed m M t n p (item e d ∷ ys) each inc h =
-      go (any-closed m M t n p ys each (λ s k. inc s (or_right (has eq m d (suc n) s) (any_rest (λ d. has eq m d (suc n) s) ys) k))) (or_cases (has eq m d (suc (suc n)) p) (any_rest (λ d. has eq m d (suc (suc n)) p) ys) h)
+  -- a page found in c or in one of the children ys right of it, of which each is closed
+  pub kids-closed : (m n : ℕ) (T : Sub K (suc n) → Type 0) (p : Sub K (suc (suc n))) → ((d : Sub K m) → has eq m d (suc (suc n)) p ≡ true → HasAll m d n p) → (c : Sub K m) (ys : List (Item K (Sub K m))) →
+      ((x : Sub K (suc n)) → (has eq m c (suc n) x || any_rest (λ d. has eq m d (suc n) x) ys) ≡ true → T x) → (has eq m c (suc (suc n)) p || any_rest (λ d. has eq m d (suc (suc n)) p) ys) ≡ true → EachChild T p
+  kids-closed m n T p each c [] inc h = go (or_cases (has eq m c (suc (suc n)) p) false h)
     where
-      go : (any_rest (λ d. has eq m d (suc (suc n)) p) ys ≡ true → HasAll M t n p) → (has eq m d (suc (suc n)) p ≡ true) ⊎ (any_rest (λ d. has eq m d (suc (suc n)) p) ys ≡ true) → HasAll M t n p
-      go r (inl h) = each-child _ _ (λ s k. inc s (or_left (has eq m d (suc n) s) (any_rest (λ d. has eq m d (suc n) s) ys) k)) p (each d h)
-      go r (inr h) = r h
+      go : (has eq m c (suc (suc n)) p ≡ true) ⊎ (false ≡ true) → EachChild T p
+      go (inl e) = each-child _ T (λ x k. inc x (or_left (has eq m c (suc n) x) false k)) p (each c e)
+      go (inr e) = absurd (false≢true e)
+  kids-closed m n T p each c (item g b ∷ ys) inc h =
+      go (kids-closed m n T p each b ys (λ x k. inc x (or_right (has eq m c (suc n) x) (has eq m b (suc n) x || any_rest (λ d. has eq m d (suc n) x) ys) k))) (or_cases (has eq m c (suc (suc n)) p) (has eq m b (suc (suc n)) p || any_rest (λ d. has eq m d (suc (suc n)) p) ys) h)
+    where
+      go : ((has eq m b (suc (suc n)) p || any_rest (λ d. has eq m d (suc (suc n)) p) ys) ≡ true → EachChild T p) → (has eq m c (suc (suc n)) p ≡ true) ⊎ ((has eq m b (suc (suc n)) p || any_rest (λ d. has eq m d (suc (suc n)) p) ys) ≡ true) → EachChild T p
+      go rec (inl e) = each-child _ T (λ x k. inc x (or_left (has eq m c (suc n) x) (has eq m b (suc n) x || any_rest (λ d. has eq m d (suc n) x) ys) k)) p (each c e)
+      go rec (inr e) = rec e
 
   pub has-closed : (m : ℕ) (t : Sub K m) (n : ℕ) (p : Sub K (suc (suc n))) → has eq m t (suc (suc n)) p ≡ true → HasAll m t n p
   has-closed zero t n p h = absurd (false≢true h)
   has-closed (suc m) (page d ys) n (page c xs) h =
       go (λ b k. has-closed m b n (page c xs) k) (or_cases (same_page eq (same_sub eq m (suc n)) (page d ys) (page c xs)) (has eq m d (suc (suc n)) (page c xs) || any_rest (λ d. has eq m d (suc (suc n)) (page c xs)) ys) h)
     where
-      under : ((b : Sub K m) → has eq m b (suc (suc n)) (page c xs) ≡ true → HasAll m b n (page c xs)) → (has eq m d (suc (suc n)) (page c xs) ≡ true) ⊎ (any_rest (λ d. has eq m d (suc (suc n)) (page c xs)) ys ≡ true) →
-          HasAll (suc m) (page d ys) n (page c xs)
-      under r (inl h) = each-child _ _ (λ s k. in-first m d ys (suc n) s k) (page c xs) (r d h)
-      under r (inr h) = any-closed m (suc m) (page d ys) n (page c xs) ys r (λ s k. in_rest m d ys (suc n) s k) h
-
       go : ((b : Sub K m) → has eq m b (suc (suc n)) (page c xs) ≡ true → HasAll m b n (page c xs)) →
           (same_page eq (same_sub eq m (suc n)) (page d ys) (page c xs) ≡ true) ⊎ ((has eq m d (suc (suc n)) (page c xs) || any_rest (λ d. has eq m d (suc (suc n)) (page c xs)) ys) ≡ true) → HasAll (suc m) (page d ys) n (page c xs)
       go r (inl h) =
           let p = and_parts (same_sub eq m (suc n) d c) (same_rest eq (same_sub eq m (suc n)) ys xs) h in
           (in-first m d ys (suc n) c (same-has m n d c p.0), rest_has m n (λ x. has eq (suc m) (page d ys) (suc n) x ≡ true) ys xs (λ s k. in_rest m d ys (suc n) s k) p.1)
-      go r (inr h) = under r (or_cases (has eq m d (suc (suc n)) (page c xs)) (any_rest (λ d. has eq m d (suc (suc n)) (page c xs)) ys) h)
+      go r (inr h) =
+          kids-closed m n (λ x. has eq (suc m) (page d ys) (suc n) x ≡ true) (page c xs) r d ys
+          (λ x k. or_right (same_sub eq (suc m) (suc n) (page d ys) x) (has eq m d (suc n) x || any_rest (λ b. has eq m b (suc n) x) ys) k) h
 
   -- the same page has the same entries, on the same level
   pub level-same : (m n : ℕ) (s : Sub K m) (t : Sub K n) → same_sub eq m n s t ≡ true → m ≡ n

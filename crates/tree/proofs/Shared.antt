@@ -4,7 +4,7 @@ use Rattle.std.proofs.lemmas.Bool.{and_parts, or_cases, or_left, or_right, false
 use Rattle.tree.specs.Tree.{Item, item, Page, page, Sub, Tree, All, Child, pages_rest}
 use Rattle.tree.specs.Fresh.{IsSame, any_rest, any_child, same_entry, same_rest, same_sub, has, sum_children, unmarked, changed}
 use Rattle.tree.specs.Stored.{Shown, map_rest, map_page, load, loaded, write, Each, Sectors, Off, first_in, first_page, where_is, has_below, lay_page, lay, Ready, ReplaceStores, DeleteStores}
-use Rattle.tree.proofs.Old.{entry-exact, level-same, HasAll, has-closed}
+use Rattle.tree.proofs.Old.{entry-exact, level-same, HasAll, has-closed, kids-closed}
 use Rattle.tree.proofs.Marks.{rest-old, EachChild, each-child}
 use Rattle.tree.proofs.Stored.{page-frames, load-stays, write_same, write-other, off-more}
 use Rattle.tree.specs.Delete.{delete}
@@ -29,22 +29,8 @@ module _ {K : Type 0} (eq : K → K → Bool) (is : IsSame K eq) where
       let p = and_parts (same_sub eq n n c d) (same_rest eq (same_sub eq n n) xs ys) h in ap₂ page (sub-exact n c d p.0) (rest-exact (same_sub eq n n) (λ a b e. sub-exact n a b e) xs ys p.1)
 
   -- WITH A PAGE BELOW THE ROOT ITS CHILDREN ARE THERE TOO
-  kids-rest : (n m : ℕ) (T : Sub K (suc n) → Type 0) (p : Sub K (suc (suc n))) (c : Sub K m) (ys : List (Item K (Sub K m))) →
-      ((x : Sub K (suc n)) → (has eq m c (suc n) x || any_rest (λ d. has eq m d (suc n) x) ys) ≡ true → T x) → (has eq m c (suc (suc n)) p || any_rest (λ d. has eq m d (suc (suc n)) p) ys) ≡ true → EachChild T p
-  kids-rest n m T p c [] inc h = go (or_cases (has eq m c (suc (suc n)) p) false h)
-    where
-      go : (has eq m c (suc (suc n)) p ≡ true) ⊎ (false ≡ true) → EachChild T p
-      go (inl e) = each-child (λ x. has eq m c (suc n) x ≡ true) T (λ x k. inc x (or_left (has eq m c (suc n) x) false k)) p (has-closed eq is m c n p e)
-      go (inr e) = absurd (false≢true e)
-  kids-rest n m T p c (item g b ∷ ys) inc h =
-      go (kids-rest n m T p b ys (λ x k. inc x (or_right (has eq m c (suc n) x) (has eq m b (suc n) x || any_rest (λ d. has eq m d (suc n) x) ys) k))) (or_cases (has eq m c (suc (suc n)) p) (has eq m b (suc (suc n)) p || any_rest (λ d. has eq m d (suc (suc n)) p) ys) h)
-    where
-      go : ((has eq m b (suc (suc n)) p || any_rest (λ d. has eq m d (suc (suc n)) p) ys) ≡ true → EachChild T p) → (has eq m c (suc (suc n)) p ≡ true) ⊎ ((has eq m b (suc (suc n)) p || any_rest (λ d. has eq m d (suc (suc n)) p) ys) ≡ true) → EachChild T p
-      go rec (inl e) = each-child (λ x. has eq m c (suc n) x ≡ true) T (λ x k. inc x (or_left (has eq m c (suc n) x) (has eq m b (suc n) x || any_rest (λ d. has eq m d (suc n) x) ys) k)) p (has-closed eq is m c n p e)
-      go rec (inr e) = rec e
-
   below-kids : (m : ℕ) (q : Sub K (suc m)) (n : ℕ) (p : Sub K (suc (suc n))) → any_child (λ c. has eq m c (suc (suc n)) p) q ≡ true → EachChild (λ x. any_child (λ c. has eq m c (suc n) x) q ≡ true) p
-  below-kids m (page c ys) n p h = kids-rest n m (λ x. any_child (λ c. has eq m c (suc n) x) (page c ys) ≡ true) p c ys (λ x k. k) h
+  below-kids m (page c ys) n p h = kids-closed eq is m n (λ x. any_child (λ c. has eq m c (suc n) x) (page c ys) ≡ true) p (λ d k. has-closed eq is m d n p k) c ys (λ x k. k) h
 
   pub below_none : (t : Tree K) (n : ℕ) (s : Sub K (suc n)) → has_below eq t (suc n) s ≡ true → unmarked K (has_below eq t) (suc n) s ≡ 0
   below_none t zero (page c xs) h = rw h (let j = leaf xs in omega arith)
