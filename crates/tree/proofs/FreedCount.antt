@@ -10,13 +10,12 @@ use Rattle.tree.specs.Stored.{Shown, load, loaded, Each, Sectors, Off, has_below
 use Rattle.tree.proofs.Changes.{insert-changes, delete-changes}
 use Rattle.tree.proofs.Drain.{delete-over, delete-keeps}
 use Rattle.tree.proofs.Fill.{insert-keeps}
-use Rattle.tree.proofs.Stored.{load-stays, insert-stores}
 use Rattle.tree.proofs.Shared.{changed-below}
 use Rattle.tree.proofs.Replaced.{replace-stores, replace-known}
 use Rattle.tree.proofs.Places.{kid-elim, spot-under, under-spot, good-apart}
 use Rattle.tree.proofs.Stay.{sectors-sub, sectors-at}
 use Rattle.tree.proofs.Freed.{Known, root-has, off_at, old-load}
-use Rattle.tree.proofs.FreedInsert.{insert-known}
+use Rattle.tree.proofs.Inserted.{insert-stores, insert-known}
 use Rattle.tree.proofs.Balance.{mem-within, none_within, union, root-missing, root-length}
 
 module _ {K : Type 0} (cmp : K → K → Cmp) (ord : IsOrder K cmp) (free : ℕ → ℕ) (d : Shown K) (n r : ℕ) (d' : Shown K) (n' m : ℕ) (good : Good cmp (loaded d n r)) (good' : Good cmp (loaded d' n' r))
@@ -59,6 +58,6 @@ insert-balances {K} cmp ord eq is free d n r k v good lk few ready =
     let s = insert_stored cmp free d n r (k, v) in
     let st = insert-stores cmp free d n r k v ready in
     let b = balances cmp ord free d n r s.1 s.0 m good (subst (λ (z : Tree K). Good cmp z) (sym st.tree) (insert-keeps cmp ord (loaded d n r) k v good few)) ready.off st.kept
-    (λ j t. has eq (suc n) (load d (suc n) r) j t) (λ j a t. or_right (same_sub eq (suc n) j (load d (suc n) r) (load d j a)) (has_below eq (loaded d n r) j (load d j a)) (root-has eq is d n r j a t)) (insert-known cmp ord eq is free d n r k v good lk ready)
+    (λ j t. has eq (suc n) (load d (suc n) r) j t) (λ j a t. or_right (same_sub eq (suc n) j (load d (suc n) r) (load d j a)) (has_below eq (loaded d n r) j (load d j a)) (root-has eq is d n r j a t)) (insert-known K cmp free d n r k v ready ord eq is good lk)
     (ap (λ (z : Tree K). changed eq (loaded d n r) z) st.tree ∙ insert-changes cmp ord eq is (loaded d n r) k v good lk) in
     b ∙ ap (λ (z : Tree K). pages z + set_free d n r (insert_stored cmp free d n r (k, v)).1 z.over) st.tree

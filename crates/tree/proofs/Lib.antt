@@ -28,5 +28,6 @@ pub mod Stay
 pub mod Freed
 pub mod Replaced
 pub mod FreedInsert
+pub mod Inserted
 pub mod Balance
 pub mod FreedCount

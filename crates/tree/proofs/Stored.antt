@@ -6,7 +6,7 @@ use Rattle.std.proofs.lemmas.Bool.{eq-eqb, ne_eqb}
 use Rattle.numbers.specs.Order.{Cmp, below, same, above}
 use Rattle.tree.specs.Tree.{Entry, Item, item, Page, page, Sub, pick, Found, at, look_in, look_page, look, All, Child}
 use Rattle.tree.specs.Insert.{Up, one, two, tops, splice, before, halves, cut, fit, grow, ins_in, ins_page, ins}
-use Rattle.tree.specs.Stored.{Shown, map_rest, map_page, map_up, load, loaded, write, Each, Sectors, found, down, onward, step_in, step, seek, Off, store, store_root, Way, here, into, beyond, way_in, way, around, ins_stored, SeekLooks, InsertStores}
+use Rattle.tree.specs.Stored.{Shown, map_rest, map_page, map_up, load, loaded, write, Each, Sectors, found, down, onward, step_in, step, seek, Off, store, store_root, Way, here, into, beyond, way_in, way, around, ins_stored, SeekLooks}
 use Rattle.tree.proofs.Lists.{all_left, all_right, child_map}
 
 -- SEARCH
@@ -238,10 +238,10 @@ module _ (K : Type 0) (free : ℕ → ℕ) (r m : ℕ) (distinct : (i j : ℕ) �
         (o.tree ∙ sym (fit-map (load w.1 n) w.0) ∙ p.0, omega arith, λ b k. o.kept b (off-more i w.2 le b k) ∙ p.2 b k, o.under)
 
     -- the root goes to its own sector
-    abbrev Rooted : (n : ℕ) (d : Shown K) (i : ℕ) (u : Up K (Page K (Sub K n))) (s : ℕ × Shown K × ℕ) → ℕ → Type 0
+    abbrev pub Rooted : (n : ℕ) (d : Shown K) (i : ℕ) (u : Up K (Page K (Sub K n))) (s : ℕ × Shown K × ℕ) → ℕ → Type 0
     Rooted n d i u s k = (loaded s.1 s.0 r ≡ (grow n (u, k)).0) × (s.2 ≡ (grow n (u, k)).1) × ((b : ℕ) → B i b → s.1 b ≡ d b)
 
-    root-out : (n : ℕ) (d : Shown K) (i : ℕ) (u : Up K (Page K ℕ)) (k : ℕ) → k ≡ i + tops u → (grow n (map_up (map_page (load d n)) u, k)).1 ≤ m → EachUp (Each (Sectors (B i) d n)) u →
+    pub root-out : (n : ℕ) (d : Shown K) (i : ℕ) (u : Up K (Page K ℕ)) (k : ℕ) → k ≡ i + tops u → (grow n (map_up (map_page (load d n)) u, k)).1 ≤ m → EachUp (Each (Sectors (B i) d n)) u →
         Rooted n d i (map_up (map_page (load d n)) u) (store_root free d i r n u) k
     root-out n d i (one p) k e l h =
         let keep : (b : ℕ) → B i b → write d r p b ≡ d b = λ b o. write-other d r b p o.1 in
@@ -265,30 +265,3 @@ module _ (K : Type 0) (free : ℕ → ℕ) (r m : ℕ) (distinct : (i j : ℕ) �
 pub grow-bound : {K : Type 0} (n : ℕ) (u : Up K (Sub K (suc n))) (k : ℕ) → k ≤ (grow n (u, k)).1 + tops u
 grow-bound n (one p) k = omega arith
 grow-bound n (two p e q) k = omega arith
-
-pub insert-stores : {K : Type 0} (cmp : K → K → Cmp) → InsertStores cmp
-insert-stores {K} cmp free d n r k v ready = record { tree = out.0; taken = out.1; kept = λ b o. out.2 b (off-more K free r m ready.distinct ready.apart 0 w.2 (omega arith) b o) ∙ p.2 b o }
-  where
-    x : Entry K
-    x = (k, v)
-
-    u : Up K (Sub K (suc n)) × ℕ
-    u = ins_page cmp (ins cmp n x) x (map_page (load d n) (d r))
-
-    m : ℕ
-    m = (grow n (ins_page cmp (ins cmp n x) x (map_page (load d n) (d r)))).1
-
-    w : Page K ℕ × Shown K × ℕ
-    w = around (ins_stored cmp free n x d 0) d 0 (way cmp x (d r))
-
-    p : (fit (map_page (load w.1 n) w.0) ≡ u.0) × (w.2 + tops (fit w.0) ≡ 0 + u.1) × ((b : ℕ) → Off free r m 0 b → w.1 b ≡ d b) × Each (Sectors (Off free r m w.2) w.1 n) w.0 × (0 ≤ w.2)
-    p = let l = grow-bound n u.0 u.1 in page-out K free r m ready.distinct ready.apart cmp n x d 0 (λ a i s. ins-out K free r m ready.distinct ready.apart cmp n x d 0 a i s) (d r) (omega arith) ready.off
-
-    same' : map_up (map_page (load w.1 n)) (fit w.0) ≡ u.0
-    same' = sym (fit-map (load w.1 n) w.0) ∙ p.0
-
-    out : Rooted K free r m ready.distinct ready.apart cmp n w.1 w.2 u.0 (store_root free w.1 w.2 r n (fit w.0)) u.1
-    out =
-        let y = p.1 in
-        subst (λ (z : Up K (Page K (Sub K n))). Rooted K free r m ready.distinct ready.apart cmp n w.1 w.2 z (store_root free w.1 w.2 r n (fit w.0)) u.1) same'
-        (root-out K free r m ready.distinct ready.apart cmp n w.1 w.2 (fit w.0) u.1 (omega arith) (subst (λ (z : Up K (Page K (Sub K n))). (grow n (z, u.1)).1 ≤ m) (sym same') (omega arith)) (fit-each (Sectors (Off free r m w.2) w.1 n) w.0 p.3))
