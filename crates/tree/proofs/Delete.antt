@@ -1,10 +1,10 @@
 use Rattle.std.proofs.Common.{◌≡◌, ℕ, zero, suc, ◌+◌, Bool, true, false, cond, leb, List, [], ◌∷◌, ◌++◌, length, sym, refl, ◌∙◌, append_assoc, append-nil, arith}
-use Rattle.tree.proofs.Mend.{mended}
 use Rattle.numbers.specs.Order.{Cmp, below, same, above, IsOrder}
 use Rattle.tree.specs.Tree.{Entry, Item, item, Page, page, Sub, flat_rest, flat_page, flat, pick, Found, absent, at, lookup, Tree, to_list, Rises}
-use Rattle.tree.specs.Insert.{Up, one, two, tops, splice, before, cut}
-use Rattle.tree.specs.Delete.{lacks, share, even, mend_page, mend, Got, none, got, max_last, past, alone, max_in, max_page, fill, back, del_in, del_page, take_max, del, shrink, if_found}
+use Rattle.tree.specs.Insert.{Up, one, splice, before, cut}
+use Rattle.tree.specs.Delete.{share, even, mend_page, mend, Got, none, got, max_last, past, alone, max_in, max_page, fill, back, del_in, del_page, take_max, del, shrink, if_found}
 use Rattle.tree.specs.Laws.{without, DeleteTakes}
+use Rattle.tree.proofs.Mend.{mended}
 use Rattle.tree.proofs.Lists.{rises-left, rises-right, rises-mid, past_same, past-above, without-skip, without-left, not-nil, find_absent}
 use Rattle.tree.proofs.Look.{lookup-finds}
 use Rattle.tree.proofs.Insert.{flat_up, splice-flat, before-flat, rest-append, cut-flat}

@@ -1,13 +1,13 @@
 -- What a delete counts are the pages of the new tree that are not marked.
-use Rattle.std.proofs.Common.{◌≡◌, ℕ, zero, suc, pred, ◌+◌, ◌-◌, ◌<◌, ◌≤◌, Bool, true, false, cond, ltb, ◌⊎◌, List, [], ◌∷◌, ◌++◌, length, take, drop, sym, refl, ap, ◌∙◌, subst, inl, inr, arith}
-use Rattle.tree.proofs.Mend.{mended}
+use Rattle.std.proofs.Common.{◌≡◌, ℕ, zero, suc, pred, ◌+◌, ◌-◌, ◌<◌, ◌≤◌, Bool, ◌⊎◌, List, [], ◌∷◌, ◌++◌, length, take, drop, sym, refl, ap, ◌∙◌, subst, inl, inr, arith}
 use Rattle.std.proofs.lemmas.List.{length-take, length-drop, length-append, take-append-drop}
-use Rattle.std.proofs.lemmas.Bool.{ltb-true, eq-eqb, ne_eqb, cases_lt}
+use Rattle.std.proofs.lemmas.Bool.{eq-eqb, ne_eqb, cases_lt}
 use Rattle.numbers.specs.Order.{Cmp, below, same, above, IsOrder}
 use Rattle.tree.specs.Tree.{Entry, Item, item, Page, page, Sub, pick, Found, absent, at, All, Child, pages_rest, pages_page, FullPage, Full, lowest, look_in, look}
 use Rattle.tree.specs.Insert.{Up, one, two, tops, splice, before, halves}
 use Rattle.tree.specs.Delete.{lent, even, mend_page, regained, mend, back, Got, none, got, max_last, past, max_in, fill, take_max, shrink, del_in, del}
 use Rattle.tree.specs.Fresh.{sum_children, unmarked}
+use Rattle.tree.proofs.Mend.{mended}
 use Rattle.tree.proofs.Lists.{all_left, all_right, not-found, child_both}
 use Rattle.tree.proofs.Pages.{pages_up, splice-pages, before-pages}
 use Rattle.tree.proofs.Drain.{GotOk, take_max-ok, del_ok}
@@ -237,8 +237,8 @@ module _ {K : Type 0} (cmp : K → K → Cmp) (ord : IsOrder K cmp) (o : (n : �
     leaf-fill =
         mended FilledLeaf (page b xs) x (page d ys) (λ l. short (omega arith) (cases_lt (length ys) 13)) (λ g l. absurd (omega (arith, q.0.0)))
         (λ g l.
-          let t = leaf-one (page b xs) fresh in let t' = held_none cmp o home 1 (page d ys) q in
-          (rw (ne_eqb (length zs) (length xs) (λ z. absurd (omega (arith, long)))) (omega arith), inl fresh))
+        let t = leaf-one (page b xs) fresh in let t' = held_none cmp o home 1 (page d ys) q in
+        (rw (ne_eqb (length zs) (length xs) (λ z. absurd (omega (arith, long)))) (omega arith), inl fresh))
       where
         u : Up K (Sub K 1)
         u = even (page b xs) x (page d ys)

@@ -1,12 +1,11 @@
 -- How many pages a delete changes at most: one of each level below the root, and one more.
-use Rattle.std.proofs.Common.{◌≡◌, ℕ, zero, suc, ◌+◌, ◌-◌, ◌≤◌, Bool, true, false, cond, ltb, ◌⊎◌, List, [], ◌∷◌, length, refl, inl, inr, arith, ◌<◌}
-use Rattle.tree.proofs.Mend.{mended}
-use Rattle.std.proofs.lemmas.Bool.{ltb-true}
+use Rattle.std.proofs.Common.{◌≡◌, ℕ, zero, suc, ◌+◌, ◌-◌, ◌≤◌, ◌⊎◌, List, [], ◌∷◌, length, refl, inl, inr, arith, ◌<◌}
 use Rattle.numbers.specs.Order.{Cmp, below, same, above}
 use Rattle.tree.specs.Tree.{Entry, Item, item, Page, page, Sub, Tree, pick, Found, absent, at, lookup, levels, All, Child, FullPage, Full, lowest}
 use Rattle.tree.specs.Insert.{Up, one, two, tops, splice, before}
 use Rattle.tree.specs.Delete.{size, even, mend_page, mend, back, Got, none, got, max_last, past, max_in, fill, take_max, shrink, if_found, del_in, del}
 use Rattle.tree.specs.Laws.{DeleteMost}
+use Rattle.tree.proofs.Mend.{mended}
 
 module _ {K S : Type 0} (A B : ℕ) where
   -- with i pages changed below: A at most where two became one, otherwise B

@@ -1,13 +1,13 @@
 -- How full the pages stay when an entry goes.
 use Rattle.std.proofs.Common.{◌≡◌, ℕ, zero, suc, ◌+◌, ◌-◌, ◌/◌, ◌≤◌, Bool, true, false, cond, ltb, leb, ◌⊎◌, List, [], ◌∷◌, ◌++◌, length, refl, inl, inr, arith}
-use Rattle.tree.proofs.Mend.{mended}
 use Rattle.std.proofs.lemmas.List.{length-append}
 use Rattle.std.proofs.lemmas.Bool.{leb-true, leb-false, ltb-true, ltb-false}
 use Rattle.numbers.specs.Order.{Cmp, below, same, above, IsOrder}
 use Rattle.tree.specs.Tree.{Entry, Item, item, Page, page, Sub, pick, Found, absent, at, lookup, levels, most_levels, Tree, to_list, All, Child, Full, FullPage, lowest}
-use Rattle.tree.specs.Insert.{Up, one, two, tops, splice, before, cut}
+use Rattle.tree.specs.Insert.{Up, one, splice, before, cut}
 use Rattle.tree.specs.Delete.{share, even, mend_page, mend, Got, none, got, max_last, past, max_in, fill, back, del_in, take_max, del, shrink, if_found, delete}
 use Rattle.tree.specs.Laws.{DeleteKeeps}
+use Rattle.tree.proofs.Mend.{mended}
 use Rattle.tree.proofs.Lists.{all_join, without-rises}
 use Rattle.tree.proofs.Fill.{Within, EachUp, Fits, splice-full, before-full, within_wider, cut-full, fits-up, RootOk}
 use Rattle.tree.proofs.Delete.{delete-takes}

@@ -1,15 +1,15 @@
 -- Two neighbours evened out or joined: both are new.
-use Rattle.std.proofs.Common.{◌≡◌, ℕ, zero, suc, pred, ◌+◌, ◌-◌, ◌<◌, ◌≤◌, Bool, true, false, cond, ltb, leb, ◌⊎◌, List, [], ◌∷◌, ◌++◌, length, take, drop, refl, ap, ap₂, inl, inr, arith}
-use Rattle.tree.proofs.Mend.{mended}
-use Rattle.tree.proofs.Fill.{EachUp}
+use Rattle.std.proofs.Common.{◌≡◌, ℕ, suc, pred, ◌+◌, ◌-◌, ◌<◌, ◌≤◌, Bool, true, false, cond, leb, ◌⊎◌, List, [], ◌∷◌, ◌++◌, length, take, drop, refl, ap₂, inl, inr, arith}
 use Rattle.std.proofs.Math.Seq.{take-append-add, drop-append-add}
 use Rattle.std.proofs.lemmas.List.{take-append-drop, length-take, length-drop, length-append, take-append-le, drop-append-le}
-use Rattle.std.proofs.lemmas.Bool.{ltb-true, le-leb, lt-leb, lt-ltb, le-ltb, cases_lt}
+use Rattle.std.proofs.lemmas.Bool.{le-leb, lt-leb, lt-ltb, le-ltb, cases_lt}
 use Rattle.numbers.specs.Order.{Cmp}
 use Rattle.tree.specs.Tree.{Entry, Item, item, Page, page, Sub, All, pages_page, FullPage, Full}
 use Rattle.tree.specs.Insert.{Up, one, two, tops, halves, cut}
 use Rattle.tree.specs.Delete.{lent, share, even, mend_page}
 use Rattle.tree.specs.Fresh.{unmarked}
+use Rattle.tree.proofs.Mend.{mended}
+use Rattle.tree.proofs.Fill.{EachUp}
 use Rattle.tree.proofs.Lists.{all_left, all_right}
 use Rattle.tree.proofs.Pages.{pages_up, rest-pages, cut-pages}
 use Rattle.tree.proofs.Marks.{some-mid, some-all, Home, AtHome, Marked, rest-old, New, Marks, new-stray, new-resized, old-none, new-counts, Held, held_none}
@@ -129,8 +129,8 @@ module _ {K : Type 0} (cmp : K → K → Cmp) (o : (n : ℕ) → Sub K n → Boo
   mend-right n i (page c xs) e (page d ys) h f k w =
       mended (Mended n i) (page c xs) e (page d ys)
       (λ l.
-        let r = evened n i 0 (page c xs) e (page d ys) h.0 (held_one n 12 (page d ys) k.0 k.1) (even-right-new n c xs e d ys (omega (arith, f.0)) k.0.0 (marks.own n d ys k.1.0) w) in
-        (omega (arith, r.0), r.1))
+      let r = evened n i 0 (page c xs) e (page d ys) h.0 (held_one n 12 (page d ys) k.0 k.1) (even-right-new n c xs e d ys (omega (arith, f.0)) k.0.0 (marks.own n d ys k.1.0) w) in
+      (omega (arith, r.0), r.1))
       (λ g l. absurd (omega (arith, k.0.0)))
       (λ g l. let a = new-counts cmp o home n (page c xs) h.1 in let b = held_none cmp o home (suc n) (page d ys) k in (omega (arith, h.0), inl h.1))
 
@@ -139,6 +139,6 @@ module _ {K : Type 0} (cmp : K → K → Cmp) (o : (n : ℕ) → Sub K n → Boo
       mended (Mended n i) (page c xs) e (page d ys)
       (λ l. absurd (omega (arith, k.0.0)))
       (λ g l.
-        let r = evened n 0 i (page c xs) e (page d ys) (held_one n 12 (page c xs) k.0 k.1) h.0 (even-left-new n c xs e d ys k.0.0 (omega (arith, f.0)) (marks.own n c xs k.1.0) w) in
-        (omega (arith, r.0), r.1))
+      let r = evened n 0 i (page c xs) e (page d ys) (held_one n 12 (page c xs) k.0 k.1) h.0 (even-left-new n c xs e d ys k.0.0 (omega (arith, f.0)) (marks.own n c xs k.1.0) w) in
+      (omega (arith, r.0), r.1))
       (λ g l. let a = new-counts cmp o home n (page d ys) h.1 in let b = held_none cmp o home (suc n) (page c xs) k in (omega (arith, h.0), inr h.1))

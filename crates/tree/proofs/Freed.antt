@@ -3,15 +3,12 @@ use Rattle.std.proofs.Common.{◌≡◌, ℕ, zero, suc, ◌+◌, ◌<◌, ◌�
 use Rattle.std.proofs.lemmas.Bool.{true≢false}
 use Rattle.numbers.specs.Order.{Cmp, IsOrder}
 use Rattle.tree.specs.Tree.{Item, item, Page, page, Sub, Tree, All, Child, pages_rest, Good}
-use Rattle.tree.specs.Delete.{delete}
-use Rattle.tree.specs.Fresh.{IsSame, has, sum_children, unmarked, changed}
-use Rattle.tree.specs.Stored.{Shown, map_page, load, loaded, write, Each, Sectors, Off, first_page, where_is, has_below, lay_rest, lay_page, lay, replaced, Ready, SomeKid, Stands, UnderRoot, Frees, ReplaceFrees, DeleteFrees}
-use Rattle.tree.proofs.Changes.{delete-changes}
-use Rattle.tree.proofs.Drain.{delete-over}
+use Rattle.tree.specs.Fresh.{IsSame, has, sum_children, unmarked}
+use Rattle.tree.specs.Stored.{Shown, load, loaded, write, Each, Sectors, Off, first_page, where_is, has_below, lay_rest, lay_page, lay, SomeKid, Stands, UnderRoot, Frees}
 use Rattle.tree.proofs.Stored.{load-stays, stored_at, write_same, write-other, off-more, off-new}
 use Rattle.tree.proofs.Laid.{rest-laid, page-laid, laid}
 use Rattle.tree.proofs.Places.{kid-map, kid-elim, one-level, one-sector}
-use Rattle.tree.proofs.Stay.{some-any, stands-trans, sectors-sub, sectors-at, stands-back, stands-has, first-stands, where-stands}
+use Rattle.tree.proofs.Stay.{some-any, sectors-sub, sectors-at, stands-back, stands-has, first-stands, where-stands}
 
 -- what is known of the sectors of a tree: old, or one of the free ones with a page that o does not mark
 module _ {K : Type 0} (free : ℕ → ℕ) (m : ℕ) (o : (n : ℕ) → Sub K n → Bool) (Old : ℕ → ℕ → Type 0) where

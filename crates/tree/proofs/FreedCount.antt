@@ -6,14 +6,13 @@ use Rattle.tree.specs.Tree.{Sub, Tree, pages, Good}
 use Rattle.tree.specs.Insert.{insert}
 use Rattle.tree.specs.Delete.{delete}
 use Rattle.tree.specs.Fresh.{has, same_sub, sum_children, unmarked, changed}
-use Rattle.tree.specs.Stored.{Shown, load, loaded, Each, Sectors, Off, has_below, replaced, insert_stored, Ready, Stands, UnderRoot, spots_page, spots, within, set_free, ReplaceBalances, DeleteBalances, InsertBalances}
+use Rattle.tree.specs.Stored.{Shown, load, loaded, Each, Sectors, Off, has_below, replaced, insert_stored, Ready, UnderRoot, spots_page, spots, within, set_free, ReplaceBalances, DeleteBalances, InsertBalances}
 use Rattle.tree.proofs.Changes.{insert-changes, delete-changes}
 use Rattle.tree.proofs.Drain.{delete-over, delete-keeps}
 use Rattle.tree.proofs.Fill.{insert-keeps}
 use Rattle.tree.proofs.Shared.{changed-below}
 use Rattle.tree.proofs.Replaced.{replace-stores, replace-known}
-use Rattle.tree.proofs.Places.{kid-elim, spot-under, under-spot, good-apart}
-use Rattle.tree.proofs.Stay.{sectors-sub, sectors-at}
+use Rattle.tree.proofs.Places.{spot-under, under-spot, good-apart}
 use Rattle.tree.proofs.Freed.{Known, root-has, off_at, old-load}
 use Rattle.tree.proofs.Inserted.{insert-stores, insert-known}
 use Rattle.tree.proofs.Balance.{mem-within, none_within, union, root-missing, root-length}

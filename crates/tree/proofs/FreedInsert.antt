@@ -1,20 +1,18 @@
 -- What is known of the sectors of a stored insert.
-use Rattle.std.proofs.Common.{◌≡◌, ℕ, zero, suc, ◌+◌, ◌<◌, ◌≤◌, Bool, true, false, List, [], ◌∷◌, sym, refl, ◌∙◌, subst, inl, inr, arith}
+use Rattle.std.proofs.Common.{◌≡◌, ℕ, zero, suc, ◌+◌, ◌<◌, ◌≤◌, Bool, false, List, [], ◌∷◌, sym, refl, ◌∙◌, subst, inl, inr, arith}
+use Rattle.std.proofs.lemmas.Bool.{or_parts}
+use Rattle.numbers.specs.Order.{Cmp, below, same, above}
+use Rattle.tree.specs.Tree.{Entry, Item, item, Page, page, Sub, Tree, All, Child, pick, Found, at, look_in, look, Full, FullPage, fewest}
+use Rattle.tree.specs.Insert.{Up, one, two, tops, splice, fit, grow, ins_in, ins_page, ins}
+use Rattle.tree.specs.Fresh.{has, same_sub}
+use Rattle.tree.specs.Stored.{Shown, map_rest, map_page, map_up, load, write, Each, Sectors, Off, store, store_root, Way, here, into, beyond, way_in, way, around, ins_stored, has_below, SomeRest, SomeKid, Stands, UnderRoot}
 use Rattle.tree.proofs.Lists.{child_both}
 use Rattle.tree.proofs.Fill.{EachUp}
-use Rattle.std.proofs.lemmas.Bool.{or_right, or_parts}
-use Rattle.numbers.specs.Order.{Cmp, below, same, above, IsOrder}
-use Rattle.tree.specs.Tree.{Entry, Item, item, Page, page, Sub, Tree, All, Child, pick, Found, at, look_in, look, lookup, lowest, Full, FullPage, fewest, Good}
-use Rattle.tree.specs.Insert.{Up, one, two, tops, splice, fit, grow, ins_in, ins_page, ins, insert}
-use Rattle.tree.specs.Fresh.{IsSame, has, same_sub}
-use Rattle.tree.specs.Stored.{Shown, map_rest, map_page, map_up, load, loaded, write, Each, Sectors, Off, store, store_root, Way, here, into, beyond, way_in, way, around, ins_stored, insert_stored, has_below, Ready, SomeRest, SomeKid, Stands, UnderRoot, Frees, InsertFrees}
 use Rattle.tree.proofs.Marks.{Marked, MarkedPage, Held, Marks, Home}
-use Rattle.tree.proofs.Homes.{home}
-use Rattle.tree.proofs.Old.{has-marked, has-marks}
-use Rattle.tree.proofs.InsertCount.{AllNew, SplitNew, ins-fresh, root-fresh}
-use Rattle.tree.proofs.Stored.{load-stays, write_same, write-other, Around, Same, way_in-same, fit-each, fit-map, store_out, page-out, ins-out, page-map}
+use Rattle.tree.proofs.InsertCount.{AllNew, SplitNew, ins-fresh}
+use Rattle.tree.proofs.Stored.{load-stays, write_same, write-other, Around, Same, way_in-same, fit-each, store_out, page-out, ins-out, page-map}
 use Rattle.tree.proofs.Places.{kid-elim, rest-each, full-each}
-use Rattle.tree.proofs.Freed.{Known, From, from-stays, from-page, frees}
+use Rattle.tree.proofs.Freed.{Known, From, from-stays, from-page}
 
 -- the child on the way is the one that search looks in
 module _ {K T : Type 0} (cmp : K → K → Cmp) (g : ℕ → T) (h : T → Found) (x : Entry K) where

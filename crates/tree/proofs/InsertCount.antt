@@ -1,12 +1,12 @@
 -- What an insert counts are the pages of the new tree that are not marked.
 use Rattle.std.proofs.Common.{◌≡◌, ℕ, zero, suc, ◌+◌, ◌≤◌, Bool, true, false, cond, leb, ◌⊎◌, List, [], ◌∷◌, ◌++◌, length, take, drop, sym, refl, ap, ◌∙◌, subst, inl, inr, arith}
-use Rattle.tree.proofs.Lists.{child_both}
 use Rattle.std.proofs.lemmas.List.{take-append-drop, length-take, length-drop}
 use Rattle.std.proofs.lemmas.Bool.{leb-false}
 use Rattle.numbers.specs.Order.{Cmp, below, same, above}
 use Rattle.tree.specs.Tree.{Entry, Item, item, Page, page, Sub, pick, Found, at, All, Child, pages_page, FullPage, Full, look_in, look}
 use Rattle.tree.specs.Insert.{Up, one, two, tops, splice, before, halves, cut, fit, ins_in, ins, grow}
 use Rattle.tree.specs.Fresh.{sum_children, unmarked}
+use Rattle.tree.proofs.Lists.{child_both}
 use Rattle.tree.proofs.Pages.{pages_up, splice-pages, before-pages, fit-pages}
 use Rattle.tree.proofs.Marks.{Some, AllBut, but-left, but-right, but-tail, but-some, Home, AtHome, SomeChild, Marked, rest-old, New, Marks, new-child, new-stray, new-resized, new-counts, Held, held_none}
 

@@ -1,11 +1,11 @@
 -- An insert in a stored tree: what stands where then, and what is set free.
 use Rattle.std.proofs.Common.{◌≡◌, ℕ, suc, ◌+◌, ◌≤◌, Bool, sym, ◌∙◌, refl, subst, inl, arith}
-use Rattle.tree.proofs.Fill.{EachUp}
 use Rattle.numbers.specs.Order.{Cmp, IsOrder}
 use Rattle.tree.specs.Tree.{Entry, Page, Sub, Tree, at, lookup, lowest, Good}
 use Rattle.tree.specs.Insert.{Up, tops, fit, grow, ins_page, ins, insert}
 use Rattle.tree.specs.Fresh.{IsSame, has}
 use Rattle.tree.specs.Stored.{Shown, map_page, map_up, load, loaded, Each, Sectors, Off, store_root, way, around, ins_stored, insert_stored, Ready, Inserted, InsertStores, UnderRoot, Frees, InsertFrees}
+use Rattle.tree.proofs.Fill.{EachUp}
 use Rattle.tree.proofs.Marks.{Marks, Home}
 use Rattle.tree.proofs.Homes.{home}
 use Rattle.tree.proofs.Old.{has-marked, has-marks}

@@ -1,11 +1,11 @@
 -- Pages lost when an entry goes.
-use Rattle.std.proofs.Common.{◌≡◌, ℕ, zero, suc, ◌+◌, ◌-◌, Bool, true, false, cond, List, [], ◌∷◌, refl, ap, ◌∙◌, ap₂, arith}
-use Rattle.tree.proofs.Mend.{mended}
+use Rattle.std.proofs.Common.{◌≡◌, ℕ, zero, suc, ◌+◌, ◌-◌, List, [], ◌∷◌, refl, ap, ◌∙◌, ap₂, arith}
 use Rattle.numbers.specs.Order.{Cmp, below, same, above}
 use Rattle.tree.specs.Tree.{Entry, Item, item, Page, page, Sub, pick, Found, absent, at, lookup, Tree, All, Child, Full, FullPage, lowest, pages_rest, pages_page, pages_of, pages}
-use Rattle.tree.specs.Insert.{Up, two, tops, splice, before}
-use Rattle.tree.specs.Delete.{lacks, even, mend_page, mend, back, Got, none, got, max_last, past, alone, max_in, fill, take_max, del, shrink, if_found, del_in, mend_loss, take_max_loss, del_loss, collapse}
+use Rattle.tree.specs.Insert.{Up, tops, splice, before}
+use Rattle.tree.specs.Delete.{even, mend_page, mend, back, Got, none, got, max_last, past, alone, max_in, fill, take_max, del, shrink, if_found, del_in, mend_loss, take_max_loss, del_loss, collapse}
 use Rattle.tree.specs.Laws.{DeleteLoses}
+use Rattle.tree.proofs.Mend.{mended}
 use Rattle.tree.proofs.Pages.{pages_up, splice-pages, before-pages, tops-pos}
 use Rattle.tree.proofs.EvenCount.{even-pages}
 

@@ -1,12 +1,12 @@
 -- Inserting a name that is there.
 use Rattle.std.proofs.Common.{◌≡◌, ℕ, zero, suc, ◌+◌, ◌-◌, ◌≤◌, List, [], ◌∷◌, length, sym, refl, ap, ◌∙◌, ap₂, arith}
-use Rattle.tree.proofs.Lists.{not-found}
 use Rattle.std.proofs.lemmas.Bool.{le-leb}
 use Rattle.numbers.specs.Order.{Cmp, below, same, above, IsOrder}
 use Rattle.tree.specs.Tree.{Entry, Item, item, Page, page, Sub, pick, Found, absent, at, look_in, look_page, look, lookup, Tree, All, Child, Full, FullPage, lowest, Good, pages_rest, pages_page, pages_of, pages}
 use Rattle.tree.specs.Delete.{size, if_found}
 use Rattle.tree.specs.Insert.{Up, one, two, splice, before, fit, ins_in, ins_page, ins, grow, insert}
 use Rattle.tree.specs.Laws.{InsertAgain, InsertPath, InsertGains}
+use Rattle.tree.proofs.Lists.{not-found}
 use Rattle.tree.proofs.Pages.{before-pages, insert-pages, tops-pos}
 
 module _ {K : Type 0} (cmp : K → K → Cmp) (ord : IsOrder K cmp) where

@@ -1,10 +1,10 @@
 -- A new tree of no more levels in the place of an old one: what stands where then, and what is set free.
-use Rattle.std.proofs.Common.{◌≡◌, ℕ, suc, ◌+◌, ◌≤◌, Bool, true, sym, ap, ◌∙◌, subst, arith, refl}
+use Rattle.std.proofs.Common.{◌≡◌, ℕ, suc, ◌≤◌, Bool, true, sym, ap, ◌∙◌, subst, arith, refl}
 use Rattle.numbers.specs.Order.{Cmp, IsOrder}
-use Rattle.tree.specs.Tree.{Page, Sub, Tree, Good}
+use Rattle.tree.specs.Tree.{Page, Sub, Tree}
 use Rattle.tree.specs.Delete.{delete}
 use Rattle.tree.specs.Fresh.{IsSame, has, sum_children, unmarked, changed}
-use Rattle.tree.specs.Stored.{Shown, map_page, load, loaded, write, Each, Sectors, Off, first_page, where_is, has_below, lay_page, lay, replaced, Ready, SomeKid, Stands, UnderRoot, Frees, Replaced, ReplaceStores, DeleteStores, ReplaceFrees, DeleteFrees}
+use Rattle.tree.specs.Stored.{Shown, load, loaded, write, Each, Sectors, Off, first_page, where_is, has_below, lay_page, lay, replaced, Ready, SomeKid, Stands, UnderRoot, Frees, Replaced, ReplaceStores, DeleteStores, ReplaceFrees, DeleteFrees}
 use Rattle.tree.proofs.Changes.{delete-changes}
 use Rattle.tree.proofs.Drain.{delete-over}
 use Rattle.tree.proofs.Stored.{page-frames, load-stays, write_same, write-other, off-more}
@@ -65,7 +65,7 @@ module _ (K : Type 0) (eq : K → K → Bool) (is : IsSame K eq) (free : ℕ →
   replace-known j x t =
       let d' : Shown K = write w.1 r w.0 in
       let f : Each (From free m o Old w.1 u.over) w.0 = page-from K free r m ready.distinct ready.apart o place d marked Old placed u.over
-          (lay-from K free r m ready.distinct ready.apart o place d marked Old placed u.over) u.root d 0 (λ b h. refl) (omega (arith, c)) in
+      (lay-from K free r m ready.distinct ready.apart o place d marked Old placed u.over) u.root d 0 (λ b h. refl) (omega (arith, c)) in
       kid-elim (From free m o Old d' u.over) (λ c. Stands d' u.over c j x) (Known free m o Old d' j x) (λ c i v. i j x v) w.0
       (from-page free m o Old w.1 d' (Off free r m w.2) keep u.over w.0 p.3 f)
       (subst (λ (z : Page K ℕ). SomeKid (λ c. Stands d' u.over c j x) z) (write_same w.1 r w.0) t)

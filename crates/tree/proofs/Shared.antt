@@ -1,17 +1,11 @@
 -- Pages of an old tree: the same page is one page, and below a page that is old no page is new.
-use Rattle.std.proofs.Common.{◌≡◌, ℕ, zero, suc, ◌+◌, ◌≤◌, Bool, true, false, cond, ◌&&◌, ◌||◌, ◌⊎◌, List, [], ◌∷◌, sym, refl, ap, ◌∙◌, subst, ap₂, inl, inr, arith}
-use Rattle.std.proofs.lemmas.Bool.{and_parts, or_cases, or_left, or_right, false≢true}
-use Rattle.tree.specs.Tree.{Item, item, Page, page, Sub, Tree, All, Child, pages_rest}
-use Rattle.tree.specs.Fresh.{IsSame, any_rest, any_child, same_entry, same_rest, same_sub, has, sum_children, unmarked, changed}
-use Rattle.tree.specs.Stored.{Shown, map_rest, map_page, load, loaded, write, Each, Sectors, Off, first_in, first_page, where_is, has_below, lay_page, lay, Ready, ReplaceStores, DeleteStores}
-use Rattle.tree.proofs.Old.{entry-exact, level-same, HasAll, has-closed, kids-closed}
-use Rattle.tree.proofs.Marks.{rest-old, EachChild, each-child}
-use Rattle.tree.proofs.Stored.{page-frames, load-stays, write_same, write-other, off-more}
-use Rattle.tree.specs.Delete.{delete}
-use Rattle.numbers.specs.Order.{Cmp, IsOrder}
-use Rattle.tree.proofs.Changes.{delete-changes}
-use Rattle.tree.proofs.Drain.{delete-over}
-use Rattle.tree.proofs.Laid.{page-laid, laid}
+use Rattle.std.proofs.Common.{◌≡◌, ℕ, zero, suc, ◌+◌, ◌≤◌, Bool, true, false, cond, ◌&&◌, ◌||◌, List, [], ◌∷◌, refl, ap, ap₂, arith}
+use Rattle.std.proofs.lemmas.Bool.{and_parts, false≢true}
+use Rattle.tree.specs.Tree.{Item, item, Page, page, Sub, Tree, pages_rest}
+use Rattle.tree.specs.Fresh.{IsSame, any_child, same_entry, same_rest, same_sub, has, sum_children, unmarked, changed}
+use Rattle.tree.specs.Stored.{has_below}
+use Rattle.tree.proofs.Old.{entry-exact, level-same, has-closed, kids-closed}
+use Rattle.tree.proofs.Marks.{rest-old, EachChild}
 
 module _ {K : Type 0} (eq : K → K → Bool) (is : IsSame K eq) where
   rest-exact : {S : Type 0} (f : S → S → Bool) → ((a b : S) → f a b ≡ true → a ≡ b) → (xs ys : List (Item K S)) → same_rest eq f xs ys ≡ true → xs ≡ ys

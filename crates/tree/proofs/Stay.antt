@@ -1,5 +1,5 @@
 -- What stands where: a place and the page there, and what stays when other sectors are written.
-use Rattle.std.proofs.Common.{◌≡◌, ℕ, zero, suc, Bool, true, false, cond, ◌||◌, ◌⊎◌, List, [], ◌∷◌, sym, refl, ◌∙◌, subst, inl, inr, arith}
+use Rattle.std.proofs.Common.{◌≡◌, ℕ, zero, suc, Bool, true, false, cond, ◌||◌, ◌⊎◌, List, [], ◌∷◌, sym, refl, ◌∙◌, subst, inl, inr}
 use Rattle.std.proofs.lemmas.Bool.{or_cases, or_left, or_right, false≢true}
 use Rattle.tree.specs.Tree.{Item, item, Page, page, Sub, All, Child}
 use Rattle.tree.specs.Fresh.{IsSame, any_rest, any_child, same_sub, has}

@@ -1,12 +1,12 @@
 -- A stored tree: what stays when other sectors are written, search, and insert.
-use Rattle.std.proofs.Common.{◌≡◌, ℕ, zero, suc, ◌+◌, ◌<◌, ◌≤◌, Bool, true, false, cond, leb, List, [], ◌∷◌, ◌++◌, length, take, drop, sym, refl, ap, ◌∙◌, subst, ap₂, arith}
-use Rattle.tree.proofs.Fill.{EachUp}
+use Rattle.std.proofs.Common.{◌≡◌, ℕ, zero, suc, ◌+◌, ◌<◌, ◌≤◌, Bool, true, false, cond, leb, List, [], ◌∷◌, ◌++◌, length, take, drop, sym, refl, ap, ◌∙◌, ap₂, arith}
 use Rattle.std.proofs.lemmas.List.{take-append-drop}
 use Rattle.std.proofs.lemmas.Bool.{eq-eqb, ne_eqb}
 use Rattle.numbers.specs.Order.{Cmp, below, same, above}
 use Rattle.tree.specs.Tree.{Entry, Item, item, Page, page, Sub, pick, Found, at, look_in, look_page, look, All, Child}
 use Rattle.tree.specs.Insert.{Up, one, two, tops, splice, before, halves, cut, fit, grow, ins_in, ins_page, ins}
 use Rattle.tree.specs.Stored.{Shown, map_rest, map_page, map_up, load, loaded, write, Each, Sectors, found, down, onward, step_in, step, seek, Off, store, store_root, Way, here, into, beyond, way_in, way, around, ins_stored, SeekLooks}
+use Rattle.tree.proofs.Fill.{EachUp}
 use Rattle.tree.proofs.Lists.{all_left, all_right, child_map}
 
 -- SEARCH

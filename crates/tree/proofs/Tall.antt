@@ -1,12 +1,12 @@
 -- Tall trees: they are good, and reach the most changed pages.
 use Rattle.std.proofs.Common.{◌≡◌, ℕ, zero, suc, ◌+◌, ◌<◌, ◌≤◌, eqb, List, [], ◌∷◌, ◌++◌, length, sym, refl, ap, ◌∙◌, subst, arith}
-use Rattle.tree.proofs.Lists.{not-found}
 use Rattle.std.proofs.lemmas.Bool.{eqb-true, eq-eqb}
 use Rattle.numbers.specs.Order.{below, cmpℕ, IsOrder}
 use Rattle.numbers.proofs.Ordered.{turnℕ, sameℕ, transℕ, lessℕ}
 use Rattle.tree.specs.Tree.{Entry, item, page, at, All, Child, flat_rest, flat, Under, Rises, FullPage, Full, Good, lookup}
 use Rattle.tree.specs.Fresh.{IsSame}
 use Rattle.tree.specs.Examples.{entry, span, spread, least, wide, brimming, sparse, Reached}
+use Rattle.tree.proofs.Lists.{not-found}
 use Rattle.tree.proofs.Changes.{insert-changes, delete-changes}
 
 -- NUMBERS AS NAMES
