@@ -4,7 +4,7 @@ use Rattle.std.proofs.lemmas.Bool.{or_cases, or_left, or_right, eqb-true, eq-eqb
 use Rattle.tree.specs.Tree.{Item, item, Page, page, Sub, All, pages_rest, pages_page, pages_of}
 use Rattle.tree.specs.Fresh.{sum_children, unmarked}
 use Rattle.tree.specs.Stored.{Shown, map_rest, map_page, load, SomeRest, SomeKid, Stands, spots_rest, spots_page, spots, Once, within, missing, SpotsStand}
-use Rattle.tree.proofs.Places.{Mem, spot-under, under-spot}
+use Rattle.tree.proofs.Places.{Mem, spot-under, under-spot, not-mem}
 
 abbrev common : List ℕ → List ℕ → ℕ
 common A [] = 0
@@ -28,8 +28,7 @@ not_within x [] h = refl
 not_within x (y ∷ A) h = rw (ne_eqb x y h.0) (not_within x A h.1)
 
 pub none_within : (x : ℕ) (A : List ℕ) → (Mem x A → ⊥) → within x A ≡ false
-none_within x [] h = refl
-none_within x (y ∷ A) h = rw (ne_eqb x y (λ e. h (inl (sym e)))) (none_within x A (λ s. h (inr s)))
+none_within x A h = not_within x A (not-mem x A h)
 
 common-none : (B : List ℕ) → common [] B ≡ 0
 common-none [] = refl
