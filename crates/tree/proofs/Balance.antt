@@ -1,10 +1,10 @@
 -- Pages before and those written to free sectors are as many as pages after and those set free.
-use Rattle.std.proofs.Common.{◌≡◌, ℕ, zero, suc, ◌+◌, Bool, true, false, cond, ◌||◌, eqb, ◌⊎◌, List, [], ◌∷◌, ◌++◌, length, sym, refl, ap, subst, inl, inr, arith, length-append}
-use Rattle.std.proofs.lemmas.Bool.{or_cases, or_left, or_right, eqb-true, eq-eqb, ne_eqb}
+use Rattle.std.proofs.Common.{◌≡◌, ℕ, zero, suc, ◌+◌, Bool, true, false, cond, ◌||◌, eqb, ◌⊎◌, List, [], ◌∷◌, ◌++◌, length, sym, refl, ap, subst, inl, inr, arith, length-append, ◌∙◌}
+use Rattle.std.proofs.lemmas.Bool.{or_cases, or_left, or_right, eqb-true, eq-eqb, ne_eqb, false≢true, true≢false}
 use Rattle.tree.specs.Tree.{Item, item, Page, page, Sub, All, pages_rest, pages_page, pages_of}
 use Rattle.tree.specs.Fresh.{sum_children, unmarked}
 use Rattle.tree.specs.Stored.{Shown, map_rest, map_page, load, SomeRest, SomeKid, Stands, spots_rest, spots_page, spots, Once, within, missing, SpotsStand}
-use Rattle.tree.proofs.Places.{Mem, spot-under, under-spot}
+use Rattle.tree.proofs.Places.{Mem, spot-under, under-spot, not-mem}
 
 abbrev common : List ℕ → List ℕ → ℕ
 common A [] = 0
@@ -28,8 +28,7 @@ not_within x [] h = refl
 not_within x (y ∷ A) h = rw (ne_eqb x y h.0) (not_within x A h.1)
 
 pub none_within : (x : ℕ) (A : List ℕ) → (Mem x A → ⊥) → within x A ≡ false
-none_within x [] h = refl
-none_within x (y ∷ A) h = rw (ne_eqb x y (λ e. h (inl (sym e)))) (none_within x A (λ s. h (inr s)))
+none_within x A h = not_within x A (not-mem x A h)
 
 common-none : (B : List ℕ) → common [] B ≡ 0
 common-none [] = refl
@@ -49,7 +48,7 @@ common-more x A (y ∷ B) h o = go (eqb x y) refl (common-more x A B h o.1)
         omega arith
     go false e r =
         let c₀ : cond {A = ℕ} (eqb x y || within x B) 1 0 ≡ cond {A = ℕ} (within x B) 1 0 = rw e refl in
-        let f : eqb y x ≡ false = ne_eqb y x (λ q. let t = eq-eqb x y (sym q) in let z : ◌≡◌ {A = ℕ} 0 1 = cc in absurd (omega arith)) in
+        let f : eqb y x ≡ false = ne_eqb y x (λ q. true≢false (sym (eq-eqb x y (sym q)) ∙ e)) in
         let c₁ : cond {A = ℕ} (eqb y x || within y A) 1 0 ≡ cond {A = ℕ} (within y A) 1 0 = rw f refl in
         omega arith
 
@@ -105,7 +104,7 @@ module _ {K : Type 0} (d : Shown K) where
   root-length n r = page-length n (λ c. sub-length n c) (d r)
 
 within-mem : (x : ℕ) (A : List ℕ) → within x A ≡ true → Mem x A
-within-mem x [] e = let z : ◌≡◌ {A = ℕ} 0 1 = cc in absurd (omega arith)
+within-mem x [] e = absurd (false≢true e)
 within-mem x (y ∷ A) e = go (within-mem x A) (or_cases (eqb x y) (within x A) e)
   where
     go : (within x A ≡ true → Mem x A) → (eqb x y ≡ true) ⊎ (within x A ≡ true) → Mem x (y ∷ A)

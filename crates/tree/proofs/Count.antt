@@ -7,7 +7,7 @@ use Rattle.tree.specs.Tree.{Entry, Item, item, Page, page, Sub, flat_rest, flat_
 use Rattle.tree.specs.Delete.{size}
 use Rattle.tree.specs.Insert.{Up, one, two, fit, ins_in, ins, ins_page, grow}
 use Rattle.tree.specs.Laws.{InsertLevels, InsertWithin, InsertRises}
-use Rattle.tree.proofs.Fill.{Within, FullUp, within_wider, ins_in-full, ins-full, insert-keeps}
+use Rattle.tree.proofs.Fill.{Within, EachUp, within_wider, ins_in-full, ins-full, insert-keeps}
 
 module _ {K : Type 0} (cmp : K → K → Cmp) (ord : IsOrder K cmp) where
   module _ {S : Type 0} (P : S → Type 0) (φ : S → List (Entry K)) (N : ℕ) (many : (c : S) → P c → N ≤ suc (length (φ c))) where
@@ -30,7 +30,7 @@ module _ {K : Type 0} (cmp : K → K → Cmp) (ord : IsOrder K cmp) where
   fit-one P a (page c xs) w = rw (le-leb (length xs) 24 w.1)
 
   -- a root with room does not split
-  ins_page-one : {S : Type 0} (P : S → Type 0) (f : S → Up K S × ℕ) (x : Entry K) → ((c : S) → P c → FullUp P (f c).0) → (low : ℕ) (c : S) (xs : List (Item K S)) → FullPage P low (page c xs) → length xs < 24 →
+  ins_page-one : {S : Type 0} (P : S → Type 0) (f : S → Up K S × ℕ) (x : Entry K) → ((c : S) → P c → EachUp P (f c).0) → (low : ℕ) (c : S) (xs : List (Item K S)) → FullPage P low (page c xs) → length xs < 24 →
       (ins_page cmp f x (page c xs)).0 ≡ one (ins_in cmp f x c xs).0
   ins_page-one P f x right low c xs h l =
       fit-one P (length xs) (ins_in cmp f x c xs).0 (within_wider P (ins_in cmp f x c xs).0 (length xs) (suc (length xs)) (length xs) 24 (omega arith) (omega arith) (ins_in-full cmp ord P f x right c xs h.2 h.3))

@@ -1,9 +1,10 @@
 use Rattle.std.proofs.Common.{◌≡◌, ℕ, zero, suc, ◌+◌, Bool, true, false, cond, leb, List, [], ◌∷◌, ◌++◌, length, sym, refl, ◌∙◌, append_assoc, append-nil, arith}
 use Rattle.numbers.specs.Order.{Cmp, below, same, above, IsOrder}
 use Rattle.tree.specs.Tree.{Entry, Item, item, Page, page, Sub, flat_rest, flat_page, flat, pick, Found, absent, at, lookup, Tree, to_list, Rises}
-use Rattle.tree.specs.Insert.{Up, one, two, tops, splice, before, cut}
-use Rattle.tree.specs.Delete.{lacks, share, even, mend_page, mend, Got, none, got, max_last, past, alone, max_in, max_page, fill, back, del_in, del_page, take_max, del, shrink, if_found}
+use Rattle.tree.specs.Insert.{Up, one, splice, before, cut}
+use Rattle.tree.specs.Delete.{share, even, mend_page, mend, Got, none, got, max_last, past, alone, max_in, max_page, fill, back, del_in, del_page, take_max, del, shrink, if_found}
 use Rattle.tree.specs.Laws.{without, DeleteTakes}
+use Rattle.tree.proofs.Mend.{mended}
 use Rattle.tree.proofs.Lists.{rises-left, rises-right, rises-mid, past_same, past-above, without-skip, without-left, not-nil, find_absent}
 use Rattle.tree.proofs.Look.{lookup-finds}
 use Rattle.tree.proofs.Insert.{flat_up, splice-flat, before-flat, rest-append, cut-flat}
@@ -21,12 +22,7 @@ module _ {K : Type 0} (cmp : K → K → Cmp) (ord : IsOrder K cmp) where
         go false = cut-flat φ (share (length xs) (length ys)) c (xs ++ (item e d ∷ ys)) ∙ glue-flat c xs e d ys
 
     mend_page-flat : (p : Page K S) (e : Entry K) (q : Page K S) → flat_up (flat_page φ) (mend_page p e q).0 ≡ flat_page φ p ++ (e ∷ flat_page φ q)
-    mend_page-flat p e q = go (lacks p) (lacks q)
-      where
-        go : (a b : Bool) → flat_up (flat_page φ) (cond {A = Up K (Page K S) × ℕ} a (even p e q, tops (even p e q)) (cond b (even p e q, tops (even p e q)) (two p e q, 1))).0 ≡ flat_page φ p ++ (e ∷ flat_page φ q)
-        go true b = even-flat p e q
-        go false true = even-flat p e q
-        go false false = refl
+    mend_page-flat p e q = mended (λ r. flat_up (flat_page φ) r.0 ≡ flat_page φ p ++ (e ∷ flat_page φ q)) p e q (λ k. even-flat p e q) (λ k l. even-flat p e q) (λ k l. refl)
 
   pub mend-flat : (n : ℕ) (c : Sub K n) (e : Entry K) (d : Sub K n) → flat_up (flat K n) (mend K n c e d).0 ≡ flat K n c ++ (e ∷ flat K n d)
   mend-flat zero c e d = refl

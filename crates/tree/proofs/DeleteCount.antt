@@ -1,21 +1,19 @@
 -- What a delete counts are the pages of the new tree that are not marked.
-use Rattle.std.proofs.Common.{◌≡◌, ℕ, zero, suc, pred, ◌+◌, ◌-◌, ◌<◌, ◌≤◌, Bool, true, false, cond, ltb, ◌⊎◌, List, [], ◌∷◌, ◌++◌, length, take, drop, sym, refl, ap, ◌∙◌, subst, inl, inr, arith}
+use Rattle.std.proofs.Common.{◌≡◌, ℕ, zero, suc, pred, ◌+◌, ◌-◌, ◌<◌, ◌≤◌, Bool, ◌⊎◌, List, [], ◌∷◌, ◌++◌, length, take, drop, sym, refl, ap, ◌∙◌, subst, inl, inr, arith}
 use Rattle.std.proofs.lemmas.List.{length-take, length-drop, length-append, take-append-drop}
-use Rattle.std.proofs.lemmas.Bool.{ltb-true, eq-eqb, ne_eqb, cases_lt}
+use Rattle.std.proofs.lemmas.Bool.{eq-eqb, ne_eqb, cases_lt}
 use Rattle.numbers.specs.Order.{Cmp, below, same, above, IsOrder}
 use Rattle.tree.specs.Tree.{Entry, Item, item, Page, page, Sub, pick, Found, absent, at, All, Child, pages_rest, pages_page, FullPage, Full, lowest, look_in, look}
 use Rattle.tree.specs.Insert.{Up, one, two, tops, splice, before, halves}
 use Rattle.tree.specs.Delete.{lent, even, mend_page, regained, mend, back, Got, none, got, max_last, past, max_in, fill, take_max, shrink, del_in, del}
 use Rattle.tree.specs.Fresh.{sum_children, unmarked}
-use Rattle.tree.proofs.Lists.{all_left, all_right}
+use Rattle.tree.proofs.Mend.{mended}
+use Rattle.tree.proofs.Lists.{all_left, all_right, not-found, child_both}
 use Rattle.tree.proofs.Pages.{pages_up, splice-pages, before-pages}
 use Rattle.tree.proofs.Drain.{GotOk, take_max-ok, del_ok}
-use Rattle.tree.proofs.Marks.{some-mid, some-all, Home, AtHome, SomeChild, Marked, rest-old, New, Marks, new-child, new-resized, new-counts, Held, held_none, held_all}
+use Rattle.tree.proofs.Marks.{some-mid, some-all, Home, AtHome, SomeChild, Marked, rest-old, New, Marks, new-child, new-resized, new-counts, Held, held_none}
 use Rattle.tree.proofs.Homes.{Each}
 use Rattle.tree.proofs.EvenCount.{even-joins, even-right, SomeUp, Away, Changed, mend-right, mend-left}
-
-no-find : (w : ℕ) → absent ≡ at w → ⊥
-no-find w h = let z : ◌≡◌ {A = ℕ} 0 1 = cc in absurd (omega arith)
 
 -- LEAVES
 module _ {K : Type 0} (cmp : K → K → Cmp) where
@@ -28,14 +26,14 @@ module _ {K : Type 0} (cmp : K → K → Cmp) where
 
   leaf-del : (P : Item K (Sub K 0) → Type 0) (k : K) (w : ℕ) (c : Sub K 0) (xs : List (Item K (Sub K 0))) → look_in cmp (look cmp 0 k) k c xs ≡ at w →
       let r = del_in cmp (mend K 0) (back K 0) (take_max K 0) (del cmp 0 k) k c xs in (r.1 ≡ 0) × Shorter P xs r.0
-  leaf-del P k w c [] q = absurd (no-find w q)
+  leaf-del P k w c [] q = absurd (not-found w q)
   leaf-del P k w c (item e d ∷ []) q = go (cmp k e.0) q
     where
       go : (o : Cmp) → pick o absent (at e.1) absent ≡ at w →
           let r = pick {A = Sub K 1 × ℕ} o (page c (item e d ∷ []), 0) (page d [], 0) (page c (item e d ∷ []), 0) in (r.1 ≡ 0) × Shorter P (item e d ∷ []) r.0
-      go below q = absurd (no-find w q)
+      go below q = absurd (not-found w q)
       go same q = (refl, (refl, λ a. tt))
-      go above q = absurd (no-find w q)
+      go above q = absurd (not-found w q)
   leaf-del P k w c (item e d ∷ y ∷ ys) q = go (cmp k e.0) (leaf-del P k w d (y ∷ ys)) q
     where
       v : Sub K 1 × ℕ
@@ -43,7 +41,7 @@ module _ {K : Type 0} (cmp : K → K → Cmp) where
 
       go : (o : Cmp) → (look_in cmp (look cmp 0 k) k d (y ∷ ys) ≡ at w → (v.1 ≡ 0) × Shorter P (y ∷ ys) v.0) → pick o absent (at e.1) (look_in cmp (look cmp 0 k) k d (y ∷ ys)) ≡ at w →
           let r = pick {A = Sub K 1 × ℕ} o (page c (item e d ∷ y ∷ ys), 0) (page d (y ∷ ys), 0) (before c e v.0, v.1) in (r.1 ≡ 0) × Shorter P (item e d ∷ y ∷ ys) r.0
-      go below i q = absurd (no-find w q)
+      go below i q = absurd (not-found w q)
       go same i q = (refl, (refl, λ a. a.1))
       go above i q = let h = i q in (h.0, before-shorter P c e d (y ∷ ys) v.0 h.1)
 
@@ -192,7 +190,7 @@ module _ {K : Type 0} (cmp : K → K → Cmp) (ord : IsOrder K cmp) (o : (n : �
   both-got n (got x p i) h f = (((h.0.0, new-child cmp o home marks (suc n) p h.0.1), f), h.1)
 
   fulls : (n low : ℕ) (c : Sub K n) (xs : List (Item K (Sub K n))) → FullPage (Full K n) low (page c xs) → Marked K o (suc n) (page c xs) → Held K o n c × All (Child (Held K o n)) xs
-  fulls n low c xs f m = ((f.2, m.1), held_all K o n xs f.3 m.2)
+  fulls n low c xs f m = ((f.2, m.1), child_both (Full K n) (Marked K o n) xs f.3 m.2)
 
   take_max-new : (n : ℕ) (t : Sub K (suc n)) → Held K o (suc n) t → GotBy Low (Left n) (take_max K (suc n) t)
   take_max-new n (page c []) k = absurd (omega (arith, k.0.0))
@@ -236,7 +234,11 @@ module _ {K : Type 0} (cmp : K → K → Cmp) (ord : IsOrder K cmp) (o : (n : �
         (rw (ne_eqb (length zs) (length (xs ++ (item x d ∷ take (suc j) ys))) (λ z. absurd (omega (arith, s, s', long)))) (omega arith), inr n)
 
     leaf-fill : FilledLeaf (mend_page (page b xs) x (page d ys))
-    leaf-fill = go (ltb (length xs) 12) (ltb (length ys) 12) refl refl
+    leaf-fill =
+        mended FilledLeaf (page b xs) x (page d ys) (λ l. short (omega arith) (cases_lt (length ys) 13)) (λ g l. absurd (omega (arith, q.0.0)))
+        (λ g l.
+        let t = leaf-one (page b xs) fresh in let t' = held_none cmp o home 1 (page d ys) q in
+        (rw (ne_eqb (length zs) (length xs) (λ z. absurd (omega (arith, long)))) (omega arith), inl fresh))
       where
         u : Up K (Sub K 1)
         u = even (page b xs) x (page d ys)
@@ -250,13 +252,6 @@ module _ {K : Type 0} (cmp : K → K → Cmp) (ord : IsOrder K cmp) (o : (n : �
             let j = pred (lent (length ys)) in
             rw (even-right b xs x d ys e l) (lent-leaf j (drop j ys) (omega arith) e (rw length-drop (omega (arith, q.0.1))) (rw length-drop (omega arith))
             (all_right _ (take j ys) (drop j ys) (rw take-append-drop (marks.own 0 d ys q.1.0))))
-
-        go : (s t : Bool) → ltb (length xs) 12 ≡ s → ltb (length ys) 12 ≡ t → FilledLeaf (cond {A = Up K (Sub K 1) × ℕ} s (u, tops u) (cond t (u, tops u) (two (page b xs) x (page d ys), 1)))
-        go true t i h = let l = ltb-true (length xs) 12 i in short (omega arith) (cases_lt (length ys) 13)
-        go false true i h = let l = ltb-true (length ys) 12 h in absurd (omega (arith, q.0.0))
-        go false false i h =
-            let t = leaf-one (page b xs) fresh in let t' = held_none cmp o home 1 (page d ys) q in
-            (rw (ne_eqb (length zs) (length xs) (λ z. absurd (omega (arith, long)))) (omega arith), inl fresh)
 
   leaf-filled : (c : Sub K 0) (zs : List (Item K (Sub K 0))) (d : Sub K 0) (ys : List (Item K (Sub K 0))) (u : Got K (Sub K 1)) → Held K o 1 (page c zs) → Held K o 1 (page d ys) → GotLast K zs u → GotBy Low (Left 0) u →
       Filled (ψ 1) (Fresh 1) (mend K 1) (back K 1) (page c zs) (page d ys) u

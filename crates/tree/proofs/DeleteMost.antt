@@ -1,11 +1,11 @@
 -- How many pages a delete changes at most: one of each level below the root, and one more.
-use Rattle.std.proofs.Common.{◌≡◌, ℕ, zero, suc, ◌+◌, ◌-◌, ◌≤◌, Bool, true, false, cond, ltb, ◌⊎◌, List, [], ◌∷◌, length, refl, inl, inr, arith}
-use Rattle.std.proofs.lemmas.Bool.{ltb-true}
+use Rattle.std.proofs.Common.{◌≡◌, ℕ, zero, suc, ◌+◌, ◌-◌, ◌≤◌, ◌⊎◌, List, [], ◌∷◌, length, refl, inl, inr, arith, ◌<◌}
 use Rattle.numbers.specs.Order.{Cmp, below, same, above}
 use Rattle.tree.specs.Tree.{Entry, Item, item, Page, page, Sub, Tree, pick, Found, absent, at, lookup, levels, All, Child, FullPage, Full, lowest}
 use Rattle.tree.specs.Insert.{Up, one, two, tops, splice, before}
 use Rattle.tree.specs.Delete.{size, even, mend_page, mend, back, Got, none, got, max_last, past, max_in, fill, take_max, shrink, if_found, del_in, del}
 use Rattle.tree.specs.Laws.{DeleteMost}
+use Rattle.tree.proofs.Mend.{mended}
 
 module _ {K S : Type 0} (A B : ℕ) where
   -- with i pages changed below: A at most where two became one, otherwise B
@@ -81,31 +81,21 @@ module _ {K : Type 0} (cmp : K → K → Cmp) where
   even-few n i (one c) h = omega arith
   even-few n i (two c e d) h = omega arith
 
-  mend-right : (n : ℕ) (p : Sub K (suc n)) (e : Entry K) (q : Sub K (suc n)) (i : ℕ) → Left n p i → Full K (suc n) q → UpFew (suc n) (suc (suc n)) i (mend_page p e q)
-  mend-right n (page c xs) e (page d ys) i h f = go (ltb (length xs) 12) (ltb (length ys) 12) refl refl h
-    where
-      u : Up K (Sub K (suc n))
-      u = even (page c xs) e (page d ys)
+  few-most : (A l : ℕ) {S : Type 0} (p : Page K S) (i : ℕ) → Few A (suc A) l p i → i ≤ suc A
+  few-most A l p i (inl h) = h.0
+  few-most A l p i (inr h) = omega arith
 
-      go : (a b : Bool) → ltb (length xs) 12 ≡ a → ltb (length ys) 12 ≡ b → Left n (page c xs) i → UpFew (suc n) (suc (suc n)) i (cond {A = Up K (Sub K (suc n)) × ℕ} a (u, tops u) (cond b (u, tops u) (two (page c xs) e (page d ys), 1)))
-      go true b s t (inl h) = let l = ltb-true (length xs) 12 s in absurd (omega (arith, h.1))
-      go true b s t (inr h) = even-few n i u h
-      go false true s t h = let l = ltb-true (length ys) 12 t in absurd (omega (arith, f.0))
-      go false false s t (inl h) = omega (arith, h.0)
-      go false false s t (inr h) = omega arith
+  left-short : (n : ℕ) (p : Sub K (suc n)) (i : ℕ) → Left n p i → size p < 12 → i ≤ n
+  left-short n p i (inl h) l = absurd (omega (arith, h.1))
+  left-short n p i (inr h) l = h
+
+  mend-right : (n : ℕ) (p : Sub K (suc n)) (e : Entry K) (q : Sub K (suc n)) (i : ℕ) → Left n p i → Full K (suc n) q → UpFew (suc n) (suc (suc n)) i (mend_page p e q)
+  mend-right n p e (page d ys) i h f =
+      mended (UpFew (suc n) (suc (suc n)) i) p e (page d ys) (λ l. even-few n i (even p e (page d ys)) (left-short n p i h l)) (λ k l. absurd (omega (arith, f.0))) (λ k l. let m = few-most n 12 p i h in omega arith)
 
   mend-left : (n : ℕ) (p : Sub K (suc n)) (e : Entry K) (q : Sub K (suc n)) (i : ℕ) → Full K (suc n) p → Left n q i → UpFew (suc n) (suc (suc n)) i (mend_page p e q)
-  mend-left n (page c xs) e (page d ys) i f h = go (ltb (length xs) 12) (ltb (length ys) 12) refl refl h
-    where
-      u : Up K (Sub K (suc n))
-      u = even (page c xs) e (page d ys)
-
-      go : (a b : Bool) → ltb (length xs) 12 ≡ a → ltb (length ys) 12 ≡ b → Left n (page d ys) i → UpFew (suc n) (suc (suc n)) i (cond {A = Up K (Sub K (suc n)) × ℕ} a (u, tops u) (cond b (u, tops u) (two (page c xs) e (page d ys), 1)))
-      go true b s t h = let l = ltb-true (length xs) 12 s in absurd (omega (arith, f.0))
-      go false true s t (inl h) = let l = ltb-true (length ys) 12 t in absurd (omega (arith, h.1))
-      go false true s t (inr h) = even-few n i u h
-      go false false s t (inl h) = omega (arith, h.0)
-      go false false s t (inr h) = omega arith
+  mend-left n (page c xs) e q i f h =
+      mended (UpFew (suc n) (suc (suc n)) i) (page c xs) e q (λ l. absurd (omega (arith, f.0))) (λ k l. even-few n i (even (page c xs) e q) (left-short n q i h l)) (λ k l. let m = few-most n 12 q i h in omega arith)
 
   -- at the leaves nothing is counted
   none_left : (A B l : ℕ) (p : Sub K 1) (i : ℕ) → Few 0 0 l p i → Few 0 1 12 p i
@@ -149,10 +139,6 @@ module _ {K : Type 0} (cmp : K → K → Cmp) where
   del-few zero k (page c (x ∷ xs)) f = none_left 0 0 (suc (length xs)) (del cmp 1 k (page c (x ∷ xs))).0 (del cmp 1 k (page c (x ∷ xs))).1 (leaf-few 12 k c x xs f)
   del-few (suc n) k (page c (x ∷ xs)) f =
       more_left (suc n) (suc (length xs)) (del cmp (suc (suc n)) k (page c (x ∷ xs))).0 (del cmp (suc (suc n)) k (page c (x ∷ xs))).1 f.0 (page-few n 12 k (λ t g. del-few n k t g) c x xs f)
-
-  few-most : (A l : ℕ) {S : Type 0} (p : Page K S) (i : ℕ) → Few A (suc A) l p i → i ≤ suc A
-  few-most A l p i (inl h) = h.0
-  few-most A l p i (inr h) = omega arith
 
   root-few : (n : ℕ) (k : K) (p : Sub K (suc n)) → FullPage (Full K n) (lowest n) p → (del cmp (suc n) k p).1 ≤ suc n
   root-few zero k (page c []) f = omega arith

@@ -4,11 +4,12 @@ use Rattle.std.proofs.lemmas.List.{length-append}
 use Rattle.std.proofs.lemmas.Bool.{leb-true, leb-false, ltb-true, ltb-false}
 use Rattle.numbers.specs.Order.{Cmp, below, same, above, IsOrder}
 use Rattle.tree.specs.Tree.{Entry, Item, item, Page, page, Sub, pick, Found, absent, at, lookup, levels, most_levels, Tree, to_list, All, Child, Full, FullPage, lowest}
-use Rattle.tree.specs.Insert.{Up, one, two, tops, splice, before, cut}
+use Rattle.tree.specs.Insert.{Up, one, splice, before, cut}
 use Rattle.tree.specs.Delete.{share, even, mend_page, mend, Got, none, got, max_last, past, max_in, fill, back, del_in, take_max, del, shrink, if_found, delete}
 use Rattle.tree.specs.Laws.{DeleteKeeps}
+use Rattle.tree.proofs.Mend.{mended}
 use Rattle.tree.proofs.Lists.{all_join, without-rises}
-use Rattle.tree.proofs.Fill.{Within, FullUp, Fits, splice-full, before-full, within_wider, cut-full, fits-up}
+use Rattle.tree.proofs.Fill.{Within, EachUp, Fits, splice-full, before-full, within_wider, cut-full, fits-up, RootOk}
 use Rattle.tree.proofs.Delete.{delete-takes}
 
 module _ {K : Type 0} (cmp : K → K → Cmp) (ord : IsOrder K cmp) where
@@ -23,7 +24,7 @@ module _ {K : Type 0} (cmp : K → K → Cmp) (ord : IsOrder K cmp) where
   module _ {S : Type 0} (P : S → Type 0) where
     -- one of the two has 11 at least, the other 12
     even-full : (c : S) (xs : List (Item K S)) (e : Entry K) (d : S) (ys : List (Item K S)) → Within P 11 24 (page c xs) → Within P 11 24 (page d ys) →
-        ((length xs ≤ 11) × (12 ≤ length ys)) ⊎ ((12 ≤ length xs) × (length ys ≤ 11)) → FullUp (FullPage P 12) (even (page c xs) e (page d ys))
+        ((length xs ≤ 11) × (12 ≤ length ys)) ⊎ ((12 ≤ length xs) × (length ys ≤ 11)) → EachUp (FullPage P 12) (even (page c xs) e (page d ys))
     even-full c xs e d ys v w l = fits-up P (even (page c xs) e (page d ys)) (go (leb (length (xs ++ (item e d ∷ ys))) 24) refl)
       where
         n : length (xs ++ (item e d ∷ ys)) ≡ length xs + suc (length ys)
@@ -39,8 +40,10 @@ module _ {K : Type 0} (cmp : K → K → Cmp) (ord : IsOrder K cmp) where
             let s = share-fits (length xs) (length ys) v.0 w.0 v.1 w.1 (omega (arith, n)) l in
             cut-full P 12 (share (length xs) (length ys)) c (xs ++ (item e d ∷ ys)) s.0 s.1 (rw n s.2) (rw n s.3) v.2 a
 
-    mend_page-full : (p : Page K S) (e : Entry K) (q : Page K S) (a b : ℕ) → 11 ≤ a → 11 ≤ b → 23 ≤ a + b → FullPage P a p → FullPage P b q → FullUp (FullPage P 12) (mend_page p e q).0
-    mend_page-full (page c xs) e (page d ys) a b h₁ h₂ h₃ v w = go (ltb (length xs) 12) (ltb (length ys) 12) refl refl
+    mend_page-full : (p : Page K S) (e : Entry K) (q : Page K S) (a b : ℕ) → 11 ≤ a → 11 ≤ b → 23 ≤ a + b → FullPage P a p → FullPage P b q → EachUp (FullPage P 12) (mend_page p e q).0
+    mend_page-full (page c xs) e (page d ys) a b h₁ h₂ h₃ v w =
+        mended (λ r. EachUp (FullPage P 12) r.0) (page c xs) e (page d ys) (λ k. even-full c xs e d ys v' w' (inl (omega arith))) (λ k l. even-full c xs e d ys v' w' (inr (omega arith)))
+        (λ k l. ((k, v.1, v.2, v.3), (l, w.1, w.2, w.3)))
       where
         v' : Within P 11 24 (page c xs)
         v' = within_wider P (page c xs) a 24 11 24 h₁ (omega arith) v
@@ -48,24 +51,16 @@ module _ {K : Type 0} (cmp : K → K → Cmp) (ord : IsOrder K cmp) where
         w' : Within P 11 24 (page d ys)
         w' = within_wider P (page d ys) b 24 11 24 h₂ (omega arith) w
 
-        u : Up K (Page K S)
-        u = even (page c xs) e (page d ys)
-
-        go : (s t : Bool) → ltb (length xs) 12 ≡ s → ltb (length ys) 12 ≡ t → FullUp (FullPage P 12) (cond {A = Up K (Page K S) × ℕ} s (u, tops u) (cond t (u, tops u) (two (page c xs) e (page d ys), 1))).0
-        go true t i j = let k = ltb-true (length xs) 12 i in even-full c xs e d ys v' w' (inl (omega arith))
-        go false true i j = let k = ltb-false (length xs) 12 i in let l = ltb-true (length ys) 12 j in even-full c xs e d ys v' w' (inr (omega arith))
-        go false false i j = ((ltb-false (length xs) 12 i, v.1, v.2, v.3), (ltb-false (length ys) 12 j, w.1, w.2, w.3))
-
   -- a subtree that may be short by one
   abbrev pub Near : (n : ℕ) → Sub K n → Type 0
   Near zero t = Unit {0}
   Near (suc n) t = FullPage (Full K n) 11 t
 
-  mend-near : (n : ℕ) (c : Sub K n) (e : Entry K) (d : Sub K n) → Near n c → Full K n d → FullUp (Full K n) (mend K n c e d).0
+  mend-near : (n : ℕ) (c : Sub K n) (e : Entry K) (d : Sub K n) → Near n c → Full K n d → EachUp (Full K n) (mend K n c e d).0
   mend-near zero c e d h k = (tt, tt)
   mend-near (suc n) c e d h k = mend_page-full (Full K n) c e d 11 12 (omega arith) (omega arith) (omega arith) h k
 
-  mend-near' : (n : ℕ) (c : Sub K n) (e : Entry K) (d : Sub K n) → Full K n c → Near n d → FullUp (Full K n) (mend K n c e d).0
+  mend-near' : (n : ℕ) (c : Sub K n) (e : Entry K) (d : Sub K n) → Full K n c → Near n d → EachUp (Full K n) (mend K n c e d).0
   mend-near' zero c e d h k = (tt, tt)
   mend-near' (suc n) c e d h k = mend_page-full (Full K n) c e d 12 11 (omega arith) (omega arith) (omega arith) h k
 
@@ -74,8 +69,8 @@ module _ {K : Type 0} (cmp : K → K → Cmp) (ord : IsOrder K cmp) where
   GotOk Q (got x c n) = Q c
 
   module _ {S : Type 0} (P Q : S → Type 0) (m : S → Entry K → S → Up K S × ℕ)
-      (mends : (c : S) (e : Entry K) (d : S) → Q c → P d → FullUp P (m c e d).0)
-      (mends' : (c : S) (e : Entry K) (d : S) → P c → Q d → FullUp P (m c e d).0)
+      (mends : (c : S) (e : Entry K) (d : S) → Q c → P d → EachUp P (m c e d).0)
+      (mends' : (c : S) (e : Entry K) (d : S) → P c → Q d → EachUp P (m c e d).0)
       (g : S → Got K S) (takes : (c : S) → P c → GotOk Q (g c)) where
     last_ok : (c : S) (e : Entry K) (u : Got K S) → P c → GotOk Q u → GotOk (Within P 0 1) (max_last m c e u)
     last_ok c e none p h = (omega arith, omega arith, p, tt)
@@ -135,9 +130,6 @@ module _ {K : Type 0} (cmp : K → K → Cmp) (ord : IsOrder K cmp) where
   del_ok zero k t h = tt
   del_ok (suc n) k (page c []) h = absurd (omega arith)
   del_ok (suc n) k (page c (x ∷ xs)) h = del-page n k (λ d i. del_ok n k d i) 11 c x xs h
-
-  abbrev RootOk : Tree K → Type 0
-  RootOk t = FullPage (Full K t.over) (lowest t.over) t.root
 
   lowest-le : (n : ℕ) → lowest n ≤ 12
   lowest-le zero = omega arith

@@ -1,27 +1,18 @@
 -- Two neighbours evened out or joined: both are new.
-use Rattle.std.proofs.Common.{◌≡◌, ℕ, zero, suc, pred, ◌+◌, ◌-◌, ◌<◌, ◌≤◌, Bool, true, false, cond, ltb, leb, ◌⊎◌, List, [], ◌∷◌, ◌++◌, length, take, drop, refl, ap, ap₂, inl, inr, arith}
+use Rattle.std.proofs.Common.{◌≡◌, ℕ, suc, pred, ◌+◌, ◌-◌, ◌<◌, ◌≤◌, Bool, true, false, cond, leb, ◌⊎◌, List, [], ◌∷◌, ◌++◌, length, take, drop, refl, ap₂, inl, inr, arith}
+use Rattle.std.proofs.Math.Seq.{take-append-add, drop-append-add}
 use Rattle.std.proofs.lemmas.List.{take-append-drop, length-take, length-drop, length-append, take-append-le, drop-append-le}
-use Rattle.std.proofs.lemmas.Bool.{ltb-true, le-leb, lt-leb, lt-ltb, le-ltb, cases_lt}
+use Rattle.std.proofs.lemmas.Bool.{le-leb, lt-leb, lt-ltb, le-ltb, cases_lt}
 use Rattle.numbers.specs.Order.{Cmp}
 use Rattle.tree.specs.Tree.{Entry, Item, item, Page, page, Sub, All, pages_page, FullPage, Full}
 use Rattle.tree.specs.Insert.{Up, one, two, tops, halves, cut}
 use Rattle.tree.specs.Delete.{lent, share, even, mend_page}
 use Rattle.tree.specs.Fresh.{unmarked}
+use Rattle.tree.proofs.Mend.{mended}
+use Rattle.tree.proofs.Fill.{EachUp}
 use Rattle.tree.proofs.Lists.{all_left, all_right}
 use Rattle.tree.proofs.Pages.{pages_up, rest-pages, cut-pages}
 use Rattle.tree.proofs.Marks.{some-mid, some-all, Home, AtHome, Marked, rest-old, New, Marks, new-stray, new-resized, old-none, new-counts, Held, held_none}
-
-take_past : {A : Type 0} (xs : List A) (y : A) (ys : List A) (m j : ℕ) → m ≡ length xs + suc j → take m (xs ++ (y ∷ ys)) ≡ xs ++ (y ∷ take j ys)
-take_past [] y ys zero j h = absurd (omega arith)
-take_past [] y ys (suc m) j h = let i : m ≡ j = omega arith in ap (λ (z : ℕ). y ∷ take z ys) i
-take_past (x ∷ xs) y ys zero j h = absurd (omega arith)
-take_past {A} (x ∷ xs) y ys (suc m) j h = ap (λ (z : List A). x ∷ z) (take_past xs y ys m j (omega arith))
-
-drop_past : {A : Type 0} (xs : List A) (y : A) (ys : List A) (m j : ℕ) → m ≡ length xs + suc j → drop m (xs ++ (y ∷ ys)) ≡ drop j ys
-drop_past [] y ys zero j h = absurd (omega arith)
-drop_past [] y ys (suc m) j h = let i : m ≡ j = omega arith in ap (λ (z : ℕ). drop z ys) i
-drop_past (x ∷ xs) y ys zero j h = absurd (omega arith)
-drop_past (x ∷ xs) y ys (suc m) j h = drop_past xs y ys m j (omega arith)
 
 -- what two neighbours become
 module _ {K S : Type 0} (c : S) (xs : List (Item K S)) (e : Entry K) (d : S) (ys : List (Item K S)) where
@@ -35,7 +26,7 @@ module _ {K S : Type 0} (c : S) (xs : List (Item K S)) (e : Entry K) (d : S) (ys
   even-right h k =
       let j = pred (lent (length ys)) in
       let s : share (length xs) (length ys) ≡ length xs + suc j = rw (lt-ltb (length xs) (length ys) (omega arith)) (omega arith) in
-      rw (lt-leb (length (xs ++ (item e d ∷ ys))) 24 (omega (arith, long))) (ap₂ (halves c) (take_past xs (item e d) ys (share (length xs) (length ys)) j s) (drop_past xs (item e d) ys (share (length xs) (length ys)) j s))
+      rw (lt-leb (length (xs ++ (item e d ∷ ys))) 24 (omega (arith, long))) (rw s (ap₂ (halves c) (take-append-add xs (item e d ∷ ys) (suc j)) (drop-append-add xs (item e d ∷ ys) (suc j))))
 
   pub even-left : 13 ≤ length xs → length ys ≡ 11 →
       even (page c xs) e (page d ys) ≡ halves c (take (length xs - lent (length xs)) xs) (drop (length xs - lent (length xs)) xs ++ (item e d ∷ ys))
@@ -54,17 +45,13 @@ even-pages {K} {S} π (page c xs) e (page d ys) = go (leb (length (xs ++ (item e
     go true = let r = rest-pages π xs (item e d ∷ ys) in omega arith
     go false = let r = rest-pages π xs (item e d ∷ ys) in let s = cut-pages π (share (length xs) (length ys)) c all in omega arith
 
--- of what stands in the place of two: one at least is as N says; each is
+-- of what stands in the place of two: one at least is as N says
 module _ {K S : Type 0} (N : S → Type 0) where
   abbrev pub SomeUp : Up K S → Type 0
   SomeUp (one c) = N c
   SomeUp (two c e d) = N c ⊎ N d
 
-  abbrev pub EachUp : Up K S → Type 0
-  EachUp (one c) = N c
-  EachUp (two c e d) = N c × N d
-
-  pub each-some : (u : Up K S) → EachUp u → SomeUp u
+  pub each-some : (u : Up K S) → EachUp N u → SomeUp u
   each-some (one c) h = h
   each-some (two c e d) h = inl h.0
 
@@ -139,41 +126,19 @@ module _ {K : Type 0} (cmp : K → K → Cmp) (o : (n : ℕ) → Sub K n → Boo
   evened n i j p e q a b h = let r = even-pages (ψ n) p e q in let s = each_counts n (even p e q) h in (omega arith, each-some (Fresh (suc n)) (even p e q) h)
 
   pub mend-right : (n i : ℕ) (p : Sub K (suc n)) (e : Entry K) (q : Sub K (suc n)) → Changed n p i → FullPage (Full K n) 11 p → Held K o (suc n) q → Away (suc n) e → Mended n i (mend_page p e q)
-  mend-right n i (page c xs) e (page d ys) h f k w = go (ltb (length xs) 12) (ltb (length ys) 12) refl refl
-    where
-      p : Sub K (suc n)
-      p = page c xs
-
-      q : Sub K (suc n)
-      q = page d ys
-
-      u : Up K (Sub K (suc n))
-      u = even (page c xs) e (page d ys)
-
-      go : (a b : Bool) → ltb (length xs) 12 ≡ a → ltb (length ys) 12 ≡ b → Mended n i (cond {A = Up K (Sub K (suc n)) × ℕ} a (u, tops u) (cond b (u, tops u) (two p e q, 1)))
-      go true b s t =
-          let l = ltb-true (length xs) 12 s in
-          let r = evened n i 0 p e q h.0 (held_one n 12 q k.0 k.1) (even-right-new n c xs e d ys (omega (arith, f.0)) k.0.0 (marks.own n d ys k.1.0) w) in
-          (omega (arith, r.0), r.1)
-      go false true s t = let l = ltb-true (length ys) 12 t in absurd (omega (arith, k.0.0))
-      go false false s t = let a = new-counts cmp o home n p h.1 in let b = held_none cmp o home (suc n) q k in (omega (arith, h.0), inl h.1)
+  mend-right n i (page c xs) e (page d ys) h f k w =
+      mended (Mended n i) (page c xs) e (page d ys)
+      (λ l.
+      let r = evened n i 0 (page c xs) e (page d ys) h.0 (held_one n 12 (page d ys) k.0 k.1) (even-right-new n c xs e d ys (omega (arith, f.0)) k.0.0 (marks.own n d ys k.1.0) w) in
+      (omega (arith, r.0), r.1))
+      (λ g l. absurd (omega (arith, k.0.0)))
+      (λ g l. let a = new-counts cmp o home n (page c xs) h.1 in let b = held_none cmp o home (suc n) (page d ys) k in (omega (arith, h.0), inl h.1))
 
   pub mend-left : (n i : ℕ) (p : Sub K (suc n)) (e : Entry K) (q : Sub K (suc n)) → Held K o (suc n) p → Changed n q i → FullPage (Full K n) 11 q → Away (suc n) e → Mended n i (mend_page p e q)
-  mend-left n i (page c xs) e (page d ys) k h f w = go (ltb (length xs) 12) (ltb (length ys) 12) refl refl
-    where
-      p : Sub K (suc n)
-      p = page c xs
-
-      q : Sub K (suc n)
-      q = page d ys
-
-      u : Up K (Sub K (suc n))
-      u = even (page c xs) e (page d ys)
-
-      go : (a b : Bool) → ltb (length xs) 12 ≡ a → ltb (length ys) 12 ≡ b → Mended n i (cond {A = Up K (Sub K (suc n)) × ℕ} a (u, tops u) (cond b (u, tops u) (two p e q, 1)))
-      go true b s t = let l = ltb-true (length xs) 12 s in absurd (omega (arith, k.0.0))
-      go false true s t =
-          let l = ltb-true (length ys) 12 t in
-          let r = evened n 0 i p e q (held_one n 12 p k.0 k.1) h.0 (even-left-new n c xs e d ys k.0.0 (omega (arith, f.0)) (marks.own n c xs k.1.0) w) in
-          (omega (arith, r.0), r.1)
-      go false false s t = let a = new-counts cmp o home n q h.1 in let b = held_none cmp o home (suc n) p k in (omega (arith, h.0), inr h.1)
+  mend-left n i (page c xs) e (page d ys) k h f w =
+      mended (Mended n i) (page c xs) e (page d ys)
+      (λ l. absurd (omega (arith, k.0.0)))
+      (λ g l.
+      let r = evened n 0 i (page c xs) e (page d ys) (held_one n 12 (page c xs) k.0 k.1) h.0 (even-left-new n c xs e d ys k.0.0 (omega (arith, f.0)) (marks.own n c xs k.1.0) w) in
+      (omega (arith, r.0), r.1))
+      (λ g l. let a = new-counts cmp o home n (page d ys) h.1 in let b = held_none cmp o home (suc n) (page c xs) k in (omega (arith, h.0), inr h.1))

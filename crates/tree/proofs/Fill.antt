@@ -14,11 +14,12 @@ module _ {K : Type 0} where
     abbrev pub Within : ℕ → ℕ → Page K S → Type 0
     Within a b (page c xs) = (a ≤ length xs) × (length xs ≤ b) × P c × All (Child P) xs
 
-    abbrev pub FullUp : Up K S → Type 0
-    FullUp (one c) = P c
-    FullUp (two c e d) = P c × P d
+    -- of what stands in the place of a child, each is as P says
+    abbrev pub EachUp : Up K S → Type 0
+    EachUp (one c) = P c
+    EachUp (two c e d) = P c × P d
 
-    pub splice-full : (u : Up K S) (xs : List (Item K S)) → FullUp u → All (Child P) xs → Within (length xs) (suc (length xs)) (splice u xs)
+    pub splice-full : (u : Up K S) (xs : List (Item K S)) → EachUp u → All (Child P) xs → Within (length xs) (suc (length xs)) (splice u xs)
     splice-full (one c) xs h a = (omega arith, omega arith, h, a)
     splice-full (two c e d) xs h a = (omega arith, omega arith, h.0, (h.1, a))
 
@@ -53,13 +54,16 @@ module _ {K : Type 0} where
         go true e = (w.0, leb-true (length xs) 24 e, w.2, w.3)
         go false e = let h = leb-false (length xs) 24 e in cut-full low 12 c xs (omega arith) (omega arith) (omega arith) (omega arith) w.2 w.3
 
-  pub fits-up : {S : Type 0} (P : S → Type 0) (u : Up K (Page K S)) → Fits P 12 u → FullUp (FullPage P 12) u
+  pub fits-up : {S : Type 0} (P : S → Type 0) (u : Up K (Page K S)) → Fits P 12 u → EachUp (FullPage P 12) u
   fits-up P (one p) h = h
   fits-up P (two p e q) h = h
 
+  abbrev pub RootOk : Tree K → Type 0
+  RootOk t = FullPage (Full K t.over) (lowest t.over) t.root
+
 module _ {K : Type 0} (cmp : K → K → Cmp) (ord : IsOrder K cmp) where
   module _ {S : Type 0} (P : S → Type 0) where
-    module _ (f : S → Up K S × ℕ) (x : Entry K) (right : (c : S) → P c → FullUp P (f c).0) where
+    module _ (f : S → Up K S × ℕ) (x : Entry K) (right : (c : S) → P c → EachUp P (f c).0) where
       pub ins_in-full : (c : S) (xs : List (Item K S)) → P c → All (Child P) xs → Within P (length xs) (suc (length xs)) (ins_in cmp f x c xs).0
       ins_in-full c [] p a = splice-full P (f c).0 [] (right c p) tt
       ins_in-full c (item e d ∷ xs) p a = go (cmp x.0 e.0) (ins_in-full d xs a.0 a.1)
@@ -73,12 +77,9 @@ module _ {K : Type 0} (cmp : K → K → Cmp) (ord : IsOrder K cmp) where
       pub ins_page-full : (low : ℕ) (p : Page K S) → FullPage P low p → Fits P low (ins_page cmp f x p).0
       ins_page-full low (page c xs) h = fit-full P low (ins_in cmp f x c xs).0 (within_wider P (ins_in cmp f x c xs).0 (length xs) (suc (length xs)) low 25 h.0 (omega arith) (ins_in-full c xs h.2 h.3))
 
-  pub ins-full : (n : ℕ) (x : Entry K) (t : Sub K n) → Full K n t → FullUp (Full K n) (ins cmp n x t).0
+  pub ins-full : (n : ℕ) (x : Entry K) (t : Sub K n) → Full K n t → EachUp (Full K n) (ins cmp n x t).0
   ins-full zero x t h = (tt, tt)
   ins-full (suc n) x t h = fits-up (Full K n) (ins_page cmp (ins cmp n x) x t).0 (ins_page-full (Full K n) (ins cmp n x) x (λ c g. ins-full n x c g) 12 t h)
-
-  abbrev RootOk : Tree K → Type 0
-  RootOk t = FullPage (Full K t.over) (lowest t.over) t.root
 
   grow-full : (n : ℕ) (u : Up K (Sub K (suc n))) (k : ℕ) → Fits (Full K n) (lowest n) u → RootOk (grow n (u, k)).0
   grow-full n (one p) k h = h

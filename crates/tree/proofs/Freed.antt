@@ -1,17 +1,14 @@
 -- The sectors set free are those of the old pages that the new tree has no more.
 use Rattle.std.proofs.Common.{◌≡◌, ℕ, zero, suc, ◌+◌, ◌<◌, ◌≤◌, Bool, true, false, cond, ◌⊎◌, List, [], ◌∷◌, sym, refl, ap, ◌∙◌, subst, inl, inr, arith}
+use Rattle.std.proofs.lemmas.Bool.{true≢false}
 use Rattle.numbers.specs.Order.{Cmp, IsOrder}
 use Rattle.tree.specs.Tree.{Item, item, Page, page, Sub, Tree, All, Child, pages_rest, Good}
-use Rattle.tree.specs.Delete.{delete}
-use Rattle.tree.specs.Fresh.{IsSame, has, sum_children, unmarked, changed}
-use Rattle.tree.specs.Stored.{Shown, map_page, load, loaded, write, Each, Sectors, Off, first_page, where_is, has_below, lay_rest, lay_page, lay, replaced, Ready, SomeKid, Stands, UnderRoot, Frees, ReplaceFrees, DeleteFrees}
-use Rattle.tree.proofs.Changes.{delete-changes}
-use Rattle.tree.proofs.Drain.{delete-over}
+use Rattle.tree.specs.Fresh.{IsSame, has, sum_children, unmarked}
+use Rattle.tree.specs.Stored.{Shown, load, loaded, write, Each, Sectors, Off, first_page, where_is, has_below, lay_rest, lay_page, lay, SomeKid, Stands, UnderRoot, Frees}
 use Rattle.tree.proofs.Stored.{load-stays, stored_at, write_same, write-other, off-more, off-new}
 use Rattle.tree.proofs.Laid.{rest-laid, page-laid, laid}
-use Rattle.tree.proofs.Shared.{page-at, where-at, below_none, changed-below, replace-stores}
 use Rattle.tree.proofs.Places.{kid-map, kid-elim, one-level, one-sector}
-use Rattle.tree.proofs.Stay.{some-any, any_some, pull, stands-trans, sectors-sub, sectors-at, stands-back, stands-has, has-stands, first-stands, where-stands}
+use Rattle.tree.proofs.Stay.{some-any, sectors-sub, sectors-at, stands-back, stands-has, first-stands, where-stands}
 
 -- what is known of the sectors of a tree: old, or one of the free ones with a page that o does not mark
 module _ {K : Type 0} (free : ℕ → ℕ) (m : ℕ) (o : (n : ℕ) → Sub K n → Bool) (Old : ℕ → ℕ → Type 0) where
@@ -49,38 +46,30 @@ module _ (K : Type 0) (free : ℕ → ℕ) (r m : ℕ) (distinct : (i j : ℕ) �
   up : (i j : ℕ) → i ≤ j → (b : ℕ) → O i b → O j b
   up i j l b h = off-more K free r m distinct apart i j l b h
 
-  kept_more : (d d' : Shown K) (i : ℕ) → ((b : ℕ) → O 0 b → d b ≡ d₀ b) → ((b : ℕ) → O i b → d' b ≡ d b) → (b : ℕ) → O 0 b → d' b ≡ d₀ b
-  kept_more d d' i k p b h = p b (up 0 i (omega arith) b h) ∙ k b h
-
   module _ (n : ℕ) (from : (s : Sub K n) (d : Shown K) (i : ℕ) → ((b : ℕ) → O 0 b → d b ≡ d₀ b) → i + unmarked K o n s ≤ m → let w = lay free o place n s d i in F w.1 n w.0) where
-    lays : (s : Sub K n) (d : Shown K) (i : ℕ) → ((b : ℕ) → O 0 b → d b ≡ d₀ b) → i + unmarked K o n s ≤ m →
-        let w = lay free o place n s d i in (load w.1 n w.0 ≡ s) × (w.2 ≡ i + unmarked K o n s) × ((b : ℕ) → O i b → w.1 b ≡ d b) × Sectors (O w.2) w.1 n w.0
-    lays s d i k l = laid K free r m distinct apart o place d₀ marked n s d i k l
+    -- a child before those that are laid behind it
+    first-from : (s : Sub K n) (xs : List (Item K (Sub K n))) →
+        ((d : Shown K) (i : ℕ) → ((b : ℕ) → O 0 b → d b ≡ d₀ b) → i + pages_rest (unmarked K o n) xs ≤ m → let w = lay_rest (lay free o place n) xs d i in All (Child (F w.1 n)) w.0) →
+        (d : Shown K) (i : ℕ) → ((b : ℕ) → O 0 b → d b ≡ d₀ b) → i + sum_children (unmarked K o n) (page s xs) ≤ m → let w = lay_page (lay free o place n) (page s xs) d i in Each (F w.1 n) w.0
+    first-from s xs rests d i k l =
+        let u = lay free o place n s d i in
+        let p = laid K free r m distinct apart o place d₀ marked n s d i k (omega arith) in
+        let pu = p.1 in
+        let keep : (b : ℕ) → O 0 b → u.1 b ≡ d₀ b = λ b h. p.2 b (up 0 i (omega arith) b h) ∙ k b h in
+        let w = lay_rest (lay free o place n) xs u.1 u.2 in
+        let q = rest-laid K free r m distinct apart o place d₀ marked n (laid K free r m distinct apart o place d₀ marked n) xs u.1 u.2 keep (omega arith) in
+        (from-stays free m o Old u.1 w.1 (O u.2) q.2 n u.0 p.3 (from s d i k (omega arith)), rests u.1 u.2 keep (omega arith))
 
     rest_from : (xs : List (Item K (Sub K n))) (d : Shown K) (i : ℕ) → ((b : ℕ) → O 0 b → d b ≡ d₀ b) → i + pages_rest (unmarked K o n) xs ≤ m →
         let w = lay_rest (lay free o place n) xs d i in All (Child (F w.1 n)) w.0
     rest_from [] d i k l = tt
-    rest_from (item e s ∷ xs) d i k l =
-        let u = lay free o place n s d i in
-        let p = lays s d i k (omega arith) in
-        let pu = p.1 in
-        let keep = kept_more d u.1 i k p.2 in
-        let w = lay_rest (lay free o place n) xs u.1 u.2 in
-        let q = rest-laid K free r m distinct apart o place d₀ marked n lays xs u.1 u.2 keep (omega arith) in
-        (from-stays free m o Old u.1 w.1 (O u.2) q.2 n u.0 p.3 (from s d i k (omega arith)), rest_from xs u.1 u.2 keep (omega arith))
+    rest_from (item e s ∷ xs) d i k l = first-from s xs (λ d i k l. rest_from xs d i k l) d i k l
 
-    page-from : (s : Sub K (suc n)) (d : Shown K) (i : ℕ) → ((b : ℕ) → O 0 b → d b ≡ d₀ b) → i + sum_children (unmarked K o n) s ≤ m →
+    pub page-from : (s : Sub K (suc n)) (d : Shown K) (i : ℕ) → ((b : ℕ) → O 0 b → d b ≡ d₀ b) → i + sum_children (unmarked K o n) s ≤ m →
         let w = lay_page (lay free o place n) s d i in Each (F w.1 n) w.0
-    page-from (page s xs) d i k l =
-        let u = lay free o place n s d i in
-        let p = lays s d i k (omega arith) in
-        let pu = p.1 in
-        let keep = kept_more d u.1 i k p.2 in
-        let w = lay_rest (lay free o place n) xs u.1 u.2 in
-        let q = rest-laid K free r m distinct apart o place d₀ marked n lays xs u.1 u.2 keep (omega arith) in
-        (from-stays free m o Old u.1 w.1 (O u.2) q.2 n u.0 p.3 (from s d i k (omega arith)), rest_from xs u.1 u.2 keep (omega arith))
+    page-from (page s xs) d i k l = first-from s xs (rest_from xs) d i k l
 
-  lay-from : (n : ℕ) (s : Sub K n) (d : Shown K) (i : ℕ) → ((b : ℕ) → O 0 b → d b ≡ d₀ b) → i + unmarked K o n s ≤ m → let w = lay free o place n s d i in F w.1 n w.0
+  pub lay-from : (n : ℕ) (s : Sub K n) (d : Shown K) (i : ℕ) → ((b : ℕ) → O 0 b → d b ≡ d₀ b) → i + unmarked K o n s ≤ m → let w = lay free o place n s d i in F w.1 n w.0
   lay-from zero s d i k l = λ j x t. absurd t
   lay-from (suc n) s d i k l = go (o (suc n) s) refl l (page-from n (λ t e j a b. lay-from n t e j a b) s d i k)
     where
@@ -113,23 +102,28 @@ module _ {K : Type 0} (eq : K → K → Bool) (is : IsSame K eq) (d : Shown K) (
   pub root-has : (j a : ℕ) → UnderRoot d n r j a → has_below eq (loaded d n r) j (load d j a) ≡ true
   root-has j a s = some-any (λ c. has eq n c j (load d j a)) (load d n) (d r) (kid-map (λ c. Stands d n c j a) (λ c. has eq n (load d n c) j (load d j a) ≡ true) (λ c t. stands-has eq is d j a n c t) (d r) s)
 
+  -- where a page below it is looked for it stands
+  pub root-place : (j : ℕ) (s : Sub K j) → has_below eq (loaded d n r) j s ≡ true → let a = first_page eq d (λ b. has eq n (load d n b) j s) (λ b. where_is eq d n b j s) (d r) in UnderRoot d n r j a × (load d j a ≡ s)
+  root-place j s e = first-stands eq is d j s n (λ b h. where-stands eq is d j s n b h) (d r) e
+
   pub has-root : (j : ℕ) (s : Sub K j) → has_below eq (loaded d n r) j s ≡ true → (a : ℕ) × UnderRoot d n r j a × (load d j a ≡ s)
-  has-root j s e = pull (λ c a. Stands d n c j a) (λ a. load d j a ≡ s) (d r)
-      (kid-map (λ c. has eq n (load d n c) j s ≡ true) (λ c. (a : ℕ) × Stands d n c j a × (load d j a ≡ s)) (λ c h. has-stands eq is d j s n c h) (d r) (any_some (λ c. has eq n c j s) (load d n) (d r) e))
+  has-root j s e = let t = root-place j s e in (first_page eq d (λ b. has eq n (load d n b) j s) (λ b. where_is eq d n b j s) (d r), t.0, t.1)
+
+-- the sectors of an old tree, all of them as B says
+module _ {K : Type 0} (B : ℕ → Type 0) (d : Shown K) (n r : ℕ) (off : Each (Sectors B d n) (d r)) where
+  pub old-off : (j a : ℕ) → UnderRoot d n r j a → Sectors B d j a
+  old-off j a s = kid-elim (Sectors B d n) (λ c. Stands d n c j a) (Sectors B d j a) (λ c i t. sectors-sub B d j a n c i t) (d r) off s
+
+  pub off_at : (j a : ℕ) → UnderRoot d n r j a → B a
+  off_at j a s = kid-elim (Sectors B d n) (λ c. Stands d n c j a) (B a) (λ c i t. sectors-at B d j a n c i t) (d r) off s
+
+  pub old-load : (d' : Shown K) → ((b : ℕ) → B b → d' b ≡ d b) → (j a : ℕ) → UnderRoot d n r j a → load d' j a ≡ load d j a
+  old-load d' kept j a s = load-stays d d' B B (λ b k. k) kept j a (old-off j a s)
 
 -- what is known of every sector of the new tree tells which are set free
 module _ {K : Type 0} (cmp : K → K → Cmp) (ord : IsOrder K cmp) (eq : K → K → Bool) (is : IsSame K eq) (free : ℕ → ℕ) (d : Shown K) (n r : ℕ) (d' : Shown K) (u : Tree K) (m : ℕ)
     (good : Good cmp (loaded d n r)) (off : Each (Sectors (Off free r m 0) d n) (d r)) (tree : loaded d' u.over r ≡ u) (kept : (b : ℕ) → Off free r m 0 b → d' b ≡ d b)
     (from : (j x : ℕ) → UnderRoot d' u.over r j x → Known free m (has_below eq (loaded d n r)) (λ j x. UnderRoot d n r j x) d' j x) where
-  old-off : (j a : ℕ) → UnderRoot d n r j a → Sectors (Off free r m 0) d j a
-  old-off j a s = kid-elim (Sectors (Off free r m 0) d n) (λ c. Stands d n c j a) (Sectors (Off free r m 0) d j a) (λ c i t. sectors-sub (Off free r m 0) d j a n c i t) (d r) off s
-
-  off_at : (j a : ℕ) → UnderRoot d n r j a → Off free r m 0 a
-  off_at j a s = kid-elim (Sectors (Off free r m 0) d n) (λ c. Stands d n c j a) (Off free r m 0 a) (λ c i t. sectors-at (Off free r m 0) d j a n c i t) (d r) off s
-
-  old-load : (j a : ℕ) → UnderRoot d n r j a → load d' j a ≡ load d j a
-  old-load j a s = load-stays d d' (Off free r m 0) (Off free r m 0) (λ b k. k) kept j a (old-off j a s)
-
   pub frees : Frees eq free d n r d' u m
   frees = record { stays = stays; only = only; others = others }
     where
@@ -146,8 +140,8 @@ module _ {K : Type 0} (cmp : K → K → Cmp) (ord : IsOrder K cmp) (eq : K → 
           go : Known free m (has_below eq (loaded d n r)) (λ j x. UnderRoot d n r j x) d' i a → has_below eq u j (load d j a) ≡ true
           go (inl k) =
               let h : has_below eq u i (load d' i a) ≡ true = subst (λ (z : Tree K). has_below eq z i (load d' i a) ≡ true) tree (root-has eq is d' u.over r i a t) in
-              subst (λ (z : ℕ). has_below eq u z (load d z a) ≡ true) (one-level cmp ord d n r good i j a k s) (subst (λ (z : Sub K i). has_below eq u i z ≡ true) (old-load i a k) h)
-          go (inr (q, l, e, f)) = absurd ((off_at j a s).0 q (omega arith) l e)
+              subst (λ (z : ℕ). has_below eq u z (load d z a) ≡ true) (one-level cmp ord d n r good i j a k s) (subst (λ (z : Sub K i). has_below eq u i z ≡ true) (old-load (Off free r m 0) d n r off d' kept i a k) h)
+          go (inr (q, l, e, f)) = absurd ((off_at (Off free r m 0) d n r off j a s).0 q (omega arith) l e)
 
       stays : (j a : ℕ) → UnderRoot d n r j a → has_below eq u j (load d j a) ≡ true → UnderRoot d' u.over r j a
       stays j a s h = go v.0 v.1 v.2 (from j v.0 v.1)
@@ -156,60 +150,8 @@ module _ {K : Type 0} (cmp : K → K → Cmp) (ord : IsOrder K cmp) (eq : K → 
           v = has-root eq is d' u.over r j (load d j a) (subst (λ (z : Tree K). has_below eq z j (load d j a) ≡ true) (sym tree) h)
 
           go : (b : ℕ) → UnderRoot d' u.over r j b → load d' j b ≡ load d j a → Known free m (has_below eq (loaded d n r)) (λ j x. UnderRoot d n r j x) d' j b → UnderRoot d' u.over r j a
-          go b t e (inl k) = subst (λ (z : ℕ). UnderRoot d' u.over r j z) (sym (one-sector cmp ord d n r good j a b s k (sym e ∙ old-load j b k))) t
+          go b t e (inl k) = subst (λ (z : ℕ). UnderRoot d' u.over r j z) (sym (one-sector cmp ord d n r good j a b s k (sym e ∙ old-load (Off free r m 0) d n r off d' kept j b k))) t
           go b t e (inr (q, l, i, f)) =
               let y : has_below eq (loaded d n r) j (load d j a) ≡ true = root-has eq is d n r j a s in
               let x : has_below eq (loaded d n r) j (load d j a) ≡ false = subst (λ (z : Sub K j). has_below eq (loaded d n r) j z ≡ false) e f in
-              let z : ◌≡◌ {A = ℕ} 0 1 = cc in absurd (omega arith)
-
-pub replace-known : (K : Type 0) (eq : K → K → Bool) → IsSame K eq → (free : ℕ → ℕ) (d : Shown K) (n r : ℕ) (u : Tree K) → u.over ≤ n → Ready free d n r (changed eq (loaded d n r) u) → let d' = (replaced eq free d n r u).0 in
-    (j x : ℕ) → UnderRoot d' u.over r j x → Known free (changed eq (loaded d n r) u) (has_below eq (loaded d n r)) (λ j x. UnderRoot d n r j x) d' j x
-replace-known K eq is free d n r u l ready = from
-  where
-    m : ℕ
-    m = changed eq (loaded d n r) u
-
-    o : (j : ℕ) → Sub K j → Bool
-    o = has_below eq (loaded d n r)
-
-    place : (j : ℕ) → Sub K j → ℕ
-    place j s = first_page eq d (λ b. has eq n (load d n b) j s) (λ b. where_is eq d n b j s) (d r)
-
-    marked : (j : ℕ) (s : Sub K (suc j)) → o (suc j) s ≡ true → (load d (suc j) (place (suc j) s) ≡ s) × Sectors (Off free r m 0) d (suc j) (place (suc j) s) × (unmarked K o (suc j) s ≡ 0)
-    marked j s e =
-        let h = page-at eq is d (Off free r m 0) n (suc j) s (λ b i k. where-at eq is d (Off free r m 0) n b (suc j) s i k) (d r) ready.off e in
-        (h.0, h.1, below_none eq is (loaded d n r) j s e)
-
-    placed : (j : ℕ) (s : Sub K (suc j)) → o (suc j) s ≡ true → (i x : ℕ) → Stands d (suc j) (place (suc j) s) i x → UnderRoot d n r i x
-    placed j s e i x t = kid-map (λ b. Stands d n b (suc j) (place (suc j) s)) (λ b. Stands d n b i x) (λ b v. stands-trans d (suc j) (place (suc j) s) i x t n b v) (d r) (first-stands eq is d (suc j) s n (λ b h. where-stands eq is d (suc j) s n b h) (d r) e)
-
-    w : Page K ℕ × Shown K × ℕ
-    w = lay_page (lay free o place u.over) u.root d 0
-
-    c : m ≡ sum_children (unmarked K o u.over) u.root
-    c = changed-below eq is (loaded d n r) u l
-
-    p : (map_page (load w.1 u.over) w.0 ≡ u.root) × (w.2 ≡ 0 + sum_children (unmarked K o u.over) u.root) × ((b : ℕ) → Off free r m 0 b → w.1 b ≡ d b) × Each (Sectors (Off free r m w.2) w.1 u.over) w.0
-    p = page-laid K free r m ready.distinct ready.apart o place d marked u.over (laid K free r m ready.distinct ready.apart o place d marked u.over) u.root d 0 (λ b h. refl) (omega (arith, c))
-
-    f : Each (From free m o (λ j x. UnderRoot d n r j x) w.1 u.over) w.0
-    f = page-from K free r m ready.distinct ready.apart o place d marked (λ j x. UnderRoot d n r j x) placed u.over
-        (lay-from K free r m ready.distinct ready.apart o place d marked (λ j x. UnderRoot d n r j x) placed u.over) u.root d 0 (λ b h. refl) (omega (arith, c))
-
-    from : (j x : ℕ) → UnderRoot (write w.1 r w.0) u.over r j x → Known free m o (λ j x. UnderRoot d n r j x) (write w.1 r w.0) j x
-    from j x t =
-        let d' : Shown K = write w.1 r w.0 in
-        kid-elim (From free m o (λ j x. UnderRoot d n r j x) d' u.over) (λ c. Stands d' u.over c j x) (Known free m o (λ j x. UnderRoot d n r j x) d' j x) (λ c i v. i j x v) w.0
-        (from-page free m o (λ j x. UnderRoot d n r j x) w.1 d' (Off free r m w.2) (λ b h. write-other w.1 r b w.0 h.1) u.over w.0 p.3 f)
-        (subst (λ (z : Page K ℕ). SomeKid (λ c. Stands d' u.over c j x) z) (write_same w.1 r w.0) t)
-
-pub replace-frees : {K : Type 0} (cmp : K → K → Cmp) → IsOrder K cmp → ReplaceFrees cmp
-replace-frees {K} cmp ord eq is free d n r u l good ready =
-    let st = replace-stores K eq is free d n r u l ready in
-    frees cmp ord eq is free d n r (replaced eq free d n r u).0 u (changed eq (loaded d n r) u) good ready.off st.tree st.kept (replace-known K eq is free d n r u l ready)
-
-pub delete-frees : {K : Type 0} (cmp : K → K → Cmp) → IsOrder K cmp → DeleteFrees cmp
-delete-frees {K} cmp ord eq is free d n r k g ready =
-    let e : changed eq (loaded d n r) (delete cmp (loaded d n r) k).0 ≡ (delete cmp (loaded d n r) k).1 = delete-changes cmp ord eq is (loaded d n r) k g in
-    subst (λ (z : ℕ). Frees eq free d n r (replaced eq free d n r (delete cmp (loaded d n r) k).0).0 (delete cmp (loaded d n r) k).0 z) e
-    (replace-frees cmp ord eq is free d n r (delete cmp (loaded d n r) k).0 (delete-over cmp ord (loaded d n r) k) g (subst (λ (z : ℕ). Ready free d n r z) (sym e) ready))
+              absurd (true≢false (sym y ∙ x))

@@ -1,18 +1,18 @@
--- The sectors that a stored insert sets free.
-use Rattle.std.proofs.Common.{◌≡◌, ℕ, zero, suc, ◌+◌, ◌<◌, ◌≤◌, Bool, true, false, List, [], ◌∷◌, sym, refl, ◌∙◌, subst, inl, inr, arith}
-use Rattle.std.proofs.lemmas.Bool.{or_right}
-use Rattle.numbers.specs.Order.{Cmp, below, same, above, IsOrder}
-use Rattle.tree.specs.Tree.{Entry, Item, item, Page, page, Sub, Tree, All, Child, pick, Found, at, look_in, look, lookup, lowest, Full, FullPage, fewest, Good}
-use Rattle.tree.specs.Insert.{Up, one, two, tops, splice, fit, grow, ins_in, ins_page, ins, insert}
-use Rattle.tree.specs.Fresh.{IsSame, has, same_sub}
-use Rattle.tree.specs.Stored.{Shown, map_rest, map_page, map_up, load, loaded, write, Each, Sectors, Off, store, store_root, Way, here, into, beyond, way_in, way, around, ins_stored, insert_stored, has_below, Ready, SomeRest, SomeKid, Stands, UnderRoot, Frees, InsertFrees}
+-- What is known of the sectors of a stored insert.
+use Rattle.std.proofs.Common.{◌≡◌, ℕ, zero, suc, ◌+◌, ◌<◌, ◌≤◌, Bool, false, List, [], ◌∷◌, sym, refl, ◌∙◌, subst, inl, inr, arith}
+use Rattle.std.proofs.lemmas.Bool.{or_parts}
+use Rattle.numbers.specs.Order.{Cmp, below, same, above}
+use Rattle.tree.specs.Tree.{Entry, Item, item, Page, page, Sub, Tree, All, Child, pick, Found, at, look_in, look, Full, FullPage, fewest}
+use Rattle.tree.specs.Insert.{Up, one, two, tops, splice, fit, grow, ins_in, ins_page, ins}
+use Rattle.tree.specs.Fresh.{has, same_sub}
+use Rattle.tree.specs.Stored.{Shown, map_rest, map_page, map_up, load, write, Each, Sectors, Off, store, store_root, Way, here, into, beyond, way_in, way, around, ins_stored, has_below, SomeRest, SomeKid, Stands, UnderRoot}
+use Rattle.tree.proofs.Lists.{child_both}
+use Rattle.tree.proofs.Fill.{EachUp}
 use Rattle.tree.proofs.Marks.{Marked, MarkedPage, Held, Marks, Home}
-use Rattle.tree.proofs.Homes.{home}
-use Rattle.tree.proofs.Old.{has-marked, has-marks}
-use Rattle.tree.proofs.InsertCount.{AllNew, SplitNew, ins-fresh, root-fresh}
-use Rattle.tree.proofs.Stored.{load-stays, write_same, write-other, Around, Same, way_in-same, EachUp, fit-each, fit-map, store_out, page-out, ins-out, page-map, grow-bound, insert-stores}
+use Rattle.tree.proofs.InsertCount.{AllNew, SplitNew, ins-fresh}
+use Rattle.tree.proofs.Stored.{load-stays, write_same, write-other, Around, Same, way_in-same, fit-each, store_out, page-out, ins-out, page-map}
 use Rattle.tree.proofs.Places.{kid-elim, rest-each, full-each}
-use Rattle.tree.proofs.Freed.{Known, From, from-stays, from-page, frees}
+use Rattle.tree.proofs.Freed.{Known, From, from-stays, from-page}
 
 -- the child on the way is the one that search looks in
 module _ {K T : Type 0} (cmp : K → K → Cmp) (g : ℕ → T) (h : T → Found) (x : Entry K) where
@@ -42,19 +42,15 @@ module _ {K T : Type 0} (g : ℕ → T) (P : Page K T → Bool) (M : T → Type 
   marked-each (page c xs) h = (h.1, rest-each M g xs h.2)
 
 module _ {K : Type 0} (P Q : ℕ → Type 0) where
-  both_rest : (xs : List (Item K ℕ)) → All (Child P) xs → All (Child Q) xs → All (Child (λ c. P c × Q c)) xs
-  both_rest [] a b = tt
-  both_rest (item e d ∷ xs) a b = ((a.0, b.0), both_rest xs a.1 b.1)
-
   both : (p : Page K ℕ) → Each P p → Each Q p → Each (λ c. P c × Q c) p
-  both (page c xs) a b = ((a.0, b.0), both_rest xs a.1 b.1)
+  both (page c xs) a b = ((a.0, b.0), child_both P Q xs a.1 b.1)
 
 module _ {K : Type 0} (d : Shown K) (n : ℕ) (R : ℕ → ℕ → Type 0) where
   kids-rest : (xs : List (Item K ℕ)) → ((j x : ℕ) → SomeRest (λ b. Stands d n b j x) xs → R j x) → All (Child (λ b. (j x : ℕ) → Stands d n b j x → R j x)) xs
   kids-rest [] f = tt
   kids-rest (item e c ∷ xs) f = (λ j x t. f j x (inl t), kids-rest xs (λ j x s. f j x (inr s)))
 
-  kids-each : (p : Page K ℕ) → ((j x : ℕ) → SomeKid (λ b. Stands d n b j x) p → R j x) → Each (λ b. (j x : ℕ) → Stands d n b j x → R j x) p
+  pub kids-each : (p : Page K ℕ) → ((j x : ℕ) → SomeKid (λ b. Stands d n b j x) p → R j x) → Each (λ b. (j x : ℕ) → Stands d n b j x → R j x) p
   kids-each (page c xs) f = (λ j x t. f j x (inl t), kids-rest xs (λ j x s. f j x (inr s)))
 
 module _ (K : Type 0) (free : ℕ → ℕ) (r m : ℕ) (distinct : (i j : ℕ) → i < m → j < m → free i ≡ free j → i ≡ j) (apart : (i : ℕ) → i < m → r ≡ free i → ⊥)
@@ -92,10 +88,10 @@ module _ (K : Type 0) (free : ℕ → ℕ) (r m : ℕ) (distinct : (i j : ℕ) �
       )
 
   -- what is known of a child before the insert
-  abbrev Before : (n : ℕ) → Shown K → ℕ → ℕ → Type 0
+  abbrev pub Before : (n : ℕ) → Shown K → ℕ → ℕ → Type 0
   Before n d i b = Sectors (O i) d n b × F d n b × Held K o n (load d n b)
 
-  before-each : (n low : ℕ) (d : Shown K) (i : ℕ) (p : Page K ℕ) → Each (Sectors (O i) d n) p → Each (F d n) p → FullPage (Full K n) low (map_page (load d n) p) → Marked K o (suc n) (map_page (load d n) p) → Each (Before n d i) p
+  pub before-each : (n low : ℕ) (d : Shown K) (i : ℕ) (p : Page K ℕ) → Each (Sectors (O i) d n) p → Each (F d n) p → FullPage (Full K n) low (map_page (load d n) p) → Marked K o (suc n) (map_page (load d n) p) → Each (Before n d i) p
   before-each n low d i p h f u k =
       let a = both (λ c. Full K n (load d n c)) (λ c. Marked K o n (load d n c)) p (full-each (Full K n) (load d n) low p u) (marked-each (load d n) (o (suc n)) (Marked K o n) p k) in
       let b = both (Sectors (O i) d n) (F d n) p h f in
@@ -115,13 +111,13 @@ module _ (K : Type 0) (free : ℕ → ℕ) (r m : ℕ) (distinct : (i j : ℕ) �
         let tf = deeper c (omega arith) b (λ h. e (k ∙ h)) in
         (s.2 (load v.1 n) (F v.1 n) (λ a h. load-stays d v.1 (O i) (O i) (λ b k. k) t.2 n a h.0) (λ a h. from-stays free m o Old d v.1 (O i) t.2 n a h.0 h.1) v.0 t.0 tf).1
 
-    page-from : (p : Page K ℕ) → let q = map_page (load d n) p in i + (ins_page cmp (ins cmp n x) x q).1 ≤ m + tops (ins_page cmp (ins cmp n x) x q).0 → Each (Before n d i) p → (look cmp (suc n) x.0 q ≡ at x.1 → ⊥) →
+    pub page-from : (p : Page K ℕ) → let q = map_page (load d n) p in i + (ins_page cmp (ins cmp n x) x q).1 ≤ m + tops (ins_page cmp (ins cmp n x) x q).0 → Each (Before n d i) p → (look cmp (suc n) x.0 q ≡ at x.1 → ⊥) →
         let w = around (ins_stored cmp free n x d i) d i (way cmp x p) in Each (F w.1 n) w.0
     page-from (page c xs) l h e =
         let q = ins_in cmp (ins cmp n x) x (load d n c) (map_rest (load d n) xs) in
         around-from (way_in cmp x c xs) q (look_in cmp (look cmp n x.0) x.0 (load d n c) (map_rest (load d n) xs)) (omega arith) (way_in-same cmp (load d n) (Before n d i) (ins cmp n x) x c xs h.0 h.1) (way_in-looks cmp (load d n) (look cmp n x.0) x c xs) e
 
-  ins-from : (n : ℕ) (x : Entry K) (d : Shown K) (i c : ℕ) → i + (ins cmp n x (load d n c)).1 ≤ m → Before n d i c → (look cmp n x.0 (load d n c) ≡ at x.1 → ⊥) → let s = ins_stored cmp free n x d i c in EachUp (F s.1 n) s.0
+  pub ins-from : (n : ℕ) (x : Entry K) (d : Shown K) (i c : ℕ) → i + (ins cmp n x (load d n c)).1 ≤ m → Before n d i c → (look cmp n x.0 (load d n c) ≡ at x.1 → ⊥) → let s = ins_stored cmp free n x d i c in EachUp (F s.1 n) s.0
   ins-from zero x d i c l h e = (λ j y t. absurd t, λ j y t. absurd t)
   ins-from (suc n) x d i c l h e =
       let w = around (ins_stored cmp free n x d i) d i (way cmp x (d c)) in
@@ -134,7 +130,7 @@ module _ (K : Type 0) (free : ℕ → ℕ) (r m : ℕ) (distinct : (i j : ℕ) �
       (new_in n s.1 s.0 (subst (λ (z : Up K (Sub K (suc n))). AllNew cmp o home marks (suc n) z) (sym out.0) (ins-fresh cmp o home marks n x (load d (suc n) c) h.2 e)))
 
   -- the root goes to its own sector
-  root-from : (n : ℕ) (d : Shown K) (i : ℕ) (u : Up K (Page K ℕ)) (k : ℕ) → k ≡ i + tops u → (grow n (map_up (map_page (load d n)) u, k)).1 ≤ m → EachUp (Each (Sectors (O i) d n)) u → EachUp (Each (F d n)) u →
+  pub root-from : (n : ℕ) (d : Shown K) (i : ℕ) (u : Up K (Page K ℕ)) (k : ℕ) → k ≡ i + tops u → (grow n (map_up (map_page (load d n)) u, k)).1 ≤ m → EachUp (Each (Sectors (O i) d n)) u → EachUp (Each (F d n)) u →
       SplitNew cmp o home marks (suc n) (map_up (map_page (load d n)) u) → let s = store_root free d i r n u in (j x : ℕ) → UnderRoot s.1 s.0 r j x → Known free m o Old s.1 j x
   root-from n d i (one p) k e l h f new j x t =
       let d' : Shown K = write d r p in
@@ -153,75 +149,7 @@ module _ (K : Type 0) (free : ℕ → ℕ) (r m : ℕ) (distinct : (i j : ℕ) �
       kid-elim (F d₃ (suc n)) (λ c. Stands d₃ (suc n) c j x) (Known free m o Old d₃ j x) (λ c q v. q j x v) top (a, (b, tt)) (subst (λ (z : Page K ℕ). SomeKid (λ c. Stands d₃ (suc n) c j x) z) (write_same d₂ r top) t)
 
 -- what is no page of the tree is none below its root
-known-below : {K : Type 0} (eq : K → K → Bool) (t : Tree K) (free : ℕ → ℕ) (m : ℕ) (Old : ℕ → ℕ → Type 0) (d : Shown K) (j x : ℕ) → Known free m (λ n s. has eq (suc t.over) t.root n s) Old d j x → Known free m (has_below eq t) Old d j x
+pub known-below : {K : Type 0} (eq : K → K → Bool) (t : Tree K) (free : ℕ → ℕ) (m : ℕ) (Old : ℕ → ℕ → Type 0) (d : Shown K) (j x : ℕ) → Known free m (λ n s. has eq (suc t.over) t.root n s) Old d j x → Known free m (has_below eq t) Old d j x
 known-below eq t free m Old d j x (inl k) = inl k
-known-below eq t free m Old d j x (inr (i, l, e, f)) = inr (i, l, e, go (has_below eq t j (load d j x)) refl)
-  where
-    go : (b : Bool) → has_below eq t j (load d j x) ≡ b → b ≡ false
-    go true h =
-        let y : has eq (suc t.over) t.root j (load d j x) ≡ true = or_right (same_sub eq (suc t.over) j t.root (load d j x)) (has_below eq t j (load d j x)) h in
-        let z : ◌≡◌ {A = ℕ} 0 1 = cc in absurd (omega arith)
-    go false h = refl
-
-pub insert-known : {K : Type 0} (cmp : K → K → Cmp) → IsOrder K cmp → (eq : K → K → Bool) → IsSame K eq → (free : ℕ → ℕ) (d : Shown K) (n r : ℕ) (k : K) (v : ℕ) → Good cmp (loaded d n r) → (lookup cmp (loaded d n r) k ≡ at v → ⊥) →
-    let m = (insert cmp (loaded d n r) k v).1 in let s = insert_stored cmp free d n r (k, v) in
-    Ready free d n r m → (j y : ℕ) → UnderRoot s.1 s.0 r j y → Known free m (λ j t. has eq (suc n) (load d (suc n) r) j t) (λ j y. UnderRoot d n r j y) s.1 j y
-insert-known {K} cmp ord eq is free d n r k v good lk ready = from
-  where
-    x : Entry K
-    x = (k, v)
-
-    u : Up K (Sub K (suc n)) × ℕ
-    u = ins_page cmp (ins cmp n x) x (map_page (load d n) (d r))
-
-    m : ℕ
-    m = (grow n (ins_page cmp (ins cmp n x) x (map_page (load d n) (d r)))).1
-
-    s : ℕ × Shown K × ℕ
-    s = insert_stored cmp free d n r x
-
-    o : (j : ℕ) → Sub K j → Bool
-    o j t = has eq (suc n) (load d (suc n) r) j t
-
-    h : K → Home
-    h k = home cmp (suc n) k (load d (suc n) r)
-
-    marks : Marks cmp o h
-    marks = has-marks eq is cmp ord (suc n) (load d (suc n) r) good.rises
-
-    Old : ℕ → ℕ → Type 0
-    Old j y = UnderRoot d n r j y
-
-    w : Page K ℕ × Shown K × ℕ
-    w = around (ins_stored cmp free n x d 0) d 0 (way cmp x (d r))
-
-    l : u.1 ≤ m + tops u.0
-    l = grow-bound n u.0 u.1
-
-    p : (fit (map_page (load w.1 n) w.0) ≡ u.0) × (w.2 + tops (fit w.0) ≡ 0 + u.1) × ((b : ℕ) → Off free r m 0 b → w.1 b ≡ d b) × Each (Sectors (Off free r m w.2) w.1 n) w.0 × (0 ≤ w.2)
-    p = page-out K free r m ready.distinct ready.apart cmp n x d 0 (λ a i s. ins-out K free r m ready.distinct ready.apart cmp n x d 0 a i s) (d r) (omega (arith, l)) ready.off
-
-    b : Each (Before K free r m ready.distinct ready.apart cmp o h marks Old n d 0) (d r)
-    b = before-each K free r m ready.distinct ready.apart cmp o h marks Old n (lowest n) d 0 (d r) ready.off (kids-each d n (Known free m o Old d) (d r) (λ j y t. inl t)) good.filled (has-marked eq is (suc n) (load d (suc n) r))
-
-    pf : Each (From free m o Old w.1 n) w.0
-    pf = page-from K free r m ready.distinct ready.apart cmp o h marks Old n x d 0 (λ a i s q. ins-from K free r m ready.distinct ready.apart cmp o h marks Old n x d 0 a i s q) (d r) (omega (arith, l)) b lk
-
-    same' : map_up (map_page (load w.1 n)) (fit w.0) ≡ u.0
-    same' = sym (fit-map (load w.1 n) w.0) ∙ p.0
-
-    from : (j y : ℕ) → UnderRoot s.1 s.0 r j y → Known free m o Old s.1 j y
-    from =
-        let y = p.1 in
-        root-from K free r m ready.distinct ready.apart cmp o h marks Old n w.1 w.2 (fit w.0) u.1 (omega arith) (subst (λ (z : Up K (Page K (Sub K n))). (grow n (z, u.1)).1 ≤ m) (sym same') (omega arith))
-        (fit-each (Sectors (Off free r m w.2) w.1 n) w.0 p.3) (fit-each (From free m o Old w.1 n) w.0 pf)
-        (subst (λ (z : Up K (Sub K (suc n))). SplitNew cmp o h marks (suc n) z) (sym same') (root-fresh cmp o h marks n (lowest n) x (load d (suc n) r) good.filled (has-marked eq is (suc n) (load d (suc n) r)) lk))
-
-pub insert-frees : {K : Type 0} (cmp : K → K → Cmp) → IsOrder K cmp → InsertFrees cmp
-insert-frees {K} cmp ord eq is free d n r k v good lk ready =
-    let s = insert_stored cmp free d n r (k, v) in
-    let m = (insert cmp (loaded d n r) k v).1 in
-    let st = insert-stores cmp free d n r k v ready in
-    subst (λ (z : Tree K). Frees eq free d n r s.1 z m) st.tree
-    (frees cmp ord eq is free d n r s.1 (loaded s.1 s.0 r) m good ready.off refl st.kept
-    (λ j y t. known-below eq (loaded d n r) free m (λ j y. UnderRoot d n r j y) s.1 j y (insert-known cmp ord eq is free d n r k v good lk ready j y t)))
+known-below eq t free m Old d j x (inr (i, l, e, f)) =
+    inr (i, l, e, (or_parts (same_sub eq (suc t.over) j t.root (load d j x)) (has_below eq t j (load d j x)) f).1)

@@ -6,8 +6,9 @@ use Rattle.numbers.specs.Order.{Cmp, below, same, above}
 use Rattle.tree.specs.Tree.{Entry, Item, item, Page, page, Sub, pick, Found, at, All, Child, pages_page, FullPage, Full, look_in, look}
 use Rattle.tree.specs.Insert.{Up, one, two, tops, splice, before, halves, cut, fit, ins_in, ins, grow}
 use Rattle.tree.specs.Fresh.{sum_children, unmarked}
+use Rattle.tree.proofs.Lists.{child_both}
 use Rattle.tree.proofs.Pages.{pages_up, splice-pages, before-pages, fit-pages}
-use Rattle.tree.proofs.Marks.{Some, AllBut, but-left, but-right, but-tail, but-some, Home, AtHome, SomeChild, Marked, rest-old, New, Marks, new-child, new-stray, new-resized, new-counts, Held, held_none, held_all}
+use Rattle.tree.proofs.Marks.{Some, AllBut, but-left, but-right, but-tail, but-some, Home, AtHome, SomeChild, Marked, rest-old, New, Marks, new-child, new-stray, new-resized, new-counts, Held, held_none}
 
 -- of what stands in a child's place: one is new
 abbrev pub NewUp : {K S : Type 0} → (S → Type 0) → Up K S → Type 0
@@ -112,7 +113,7 @@ module _ {K : Type 0} (cmp : K → K → Cmp) (o : (n : ℕ) → Sub K n → Boo
       FullPage (Full K n) low (page c xs) → Marked K o (suc n) (page c xs) → (look cmp (suc n) x.0 (page c xs) ≡ at x.1 → ⊥) →
       let r = ins_in cmp (ins cmp n x) x c xs in (pages_page (ψ n) r.0 ≡ 1 + r.1) × Altered (Fresh n) home (suc n) (length xs) (length xs) r.0
   page-new n low x c xs right h k q =
-      ins_in-new cmp (Held K o n) (Fresh n) (ψ n) (held_none cmp o home n) home marks.respects (suc n) (length xs) x (ins cmp n x) (look cmp n x.0) right c xs (h.2, k.1) (held_all K o n xs h.3 k.2) (marks.own n c xs k.0) q
+      ins_in-new cmp (Held K o n) (Fresh n) (ψ n) (held_none cmp o home n) home marks.respects (suc n) (length xs) x (ins cmp n x) (look cmp n x.0) right c xs (h.2, k.1) (child_both (Full K n) (Marked K o n) xs h.3 k.2) (marks.own n c xs k.0) q
 
   ins-new : (n : ℕ) (x : Entry K) (t : Sub K n) → Held K o n t → (look cmp n x.0 t ≡ at x.1 → ⊥) → (pages_up (ψ n) (ins cmp n x t).0 ≡ (ins cmp n x t).1) × NewUp (Fresh n) (ins cmp n x t).0
   ins-new zero x t h q = (refl, tt)

@@ -1,9 +1,13 @@
 -- A new tree laid over an old one: shared pages stay where they are.
-use Rattle.std.proofs.Common.{◌≡◌, ℕ, zero, suc, ◌+◌, ◌<◌, ◌≤◌, Bool, true, false, cond, List, [], ◌∷◌, refl, ◌∙◌, ap₂, arith}
-use Rattle.tree.specs.Tree.{Item, item, Page, page, Sub, All, Child, pages_rest}
+use Rattle.std.proofs.Common.{◌≡◌, ℕ, zero, suc, ◌+◌, ◌<◌, ◌≤◌, Bool, true, false, cond, List, [], ◌∷◌, refl, ◌∙◌, ap₂, arith, ap}
+use Rattle.tree.specs.Tree.{Item, item, Page, page, Sub, All, Child, pages_rest, Entry}
 use Rattle.tree.specs.Fresh.{sum_children, unmarked}
 use Rattle.tree.specs.Stored.{Shown, map_rest, map_page, load, write, Each, Sectors, Off, lay_rest, lay_page, lay}
 use Rattle.tree.proofs.Stored.{load-stays, sectors-stay, stored_at, write_same, write-other, off-more, off-new}
+
+-- the children of a page behind one more entry
+abbrev behind : {K S : Type 0} → Entry K → Page K S → List (Item K S)
+behind e (page c xs) = item e c ∷ xs
 
 module _ (K : Type 0) (free : ℕ → ℕ) (r m : ℕ) (distinct : (i j : ℕ) → i < m → j < m → free i ≡ free j → i ≡ j) (apart : (i : ℕ) → i < m → r ≡ free i → ⊥)
     (o : (n : ℕ) → Sub K n → Bool) (place : (n : ℕ) → Sub K n → ℕ) (d₀ : Shown K)
@@ -21,45 +25,35 @@ module _ (K : Type 0) (free : ℕ → ℕ) (r m : ℕ) (distinct : (i j : ℕ) �
   abbrev pub Laid : (n : ℕ) → Sub K n → Shown K → ℕ → ℕ × Shown K × ℕ → Type 0
   Laid n s d i w = (load w.1 n w.0 ≡ s) × (w.2 ≡ i + unmarked K o n s) × ((b : ℕ) → B i b → w.1 b ≡ d b) × Sectors (B w.2) w.1 n w.0
 
-  module _ (n : ℕ) (lays : (s : Sub K n) (d : Shown K) (i : ℕ) → Keeps d → i + unmarked K o n s ≤ m → Laid n s d i (lay free o place n s d i)) where
-    pub rest-laid : (xs : List (Item K (Sub K n))) (d : Shown K) (i : ℕ) → Keeps d → i + pages_rest (unmarked K o n) xs ≤ m →
-        let w = lay_rest (lay free o place n) xs d i in
-        (map_rest (load w.1 n) w.0 ≡ xs) × (w.2 ≡ i + pages_rest (unmarked K o n) xs) × ((b : ℕ) → B i b → w.1 b ≡ d b) × All (Child (Sectors (B w.2) w.1 n)) w.0
-    rest-laid [] d i k l = (refl, omega arith, λ b h. refl, tt)
-    rest-laid (item e s ∷ xs) d i k l =
-        let u = lay free o place n s d i in
-        let p = lays s d i k (omega arith) in
-        let pu = p.1 in
-        let keep : Keeps u.1 = λ b h. p.2 b (more 0 i (omega arith) b h) ∙ k b h in
-        let w = lay_rest (lay free o place n) xs u.1 u.2 in
-        let q = rest-laid xs u.1 u.2 keep (omega arith) in
-        let qu = q.1 in
-        let up : (b : ℕ) → B u.2 b → B w.2 b = more u.2 w.2 (omega arith) in
-        let s' : load w.1 n u.0 ≡ s = load-stays u.1 w.1 (B u.2) (B w.2) up q.2 n u.0 p.3 ∙ p.0 in (
-          ap₂ (λ (y : Sub K n) (z : List (Item K (Sub K n))). item e y ∷ z) s' q.0,
-          omega arith,
-          λ b h. q.2 b (more i u.2 (omega arith) b h) ∙ p.2 b h,
-          (sectors-stay u.1 w.1 (B u.2) (B w.2) up q.2 n u.0 p.3, q.3),
-        )
+  -- so the children of a page
+  abbrev pub PageLaid : (n : ℕ) → Sub K (suc n) → Shown K → ℕ → Page K ℕ × Shown K × ℕ → Type 0
+  PageLaid n s d i w = (map_page (load w.1 n) w.0 ≡ s) × (w.2 ≡ i + sum_children (unmarked K o n) s) × ((b : ℕ) → B i b → w.1 b ≡ d b) × Each (Sectors (B w.2) w.1 n) w.0
 
-    pub page-laid : (s : Sub K (suc n)) (d : Shown K) (i : ℕ) → Keeps d → i + sum_children (unmarked K o n) s ≤ m →
-        let w = lay_page (lay free o place n) s d i in
-        (map_page (load w.1 n) w.0 ≡ s) × (w.2 ≡ i + sum_children (unmarked K o n) s) × ((b : ℕ) → B i b → w.1 b ≡ d b) × Each (Sectors (B w.2) w.1 n) w.0
-    page-laid (page s xs) d i k l =
+  module _ (n : ℕ) (lays : (s : Sub K n) (d : Shown K) (i : ℕ) → Keeps d → i + unmarked K o n s ≤ m → Laid n s d i (lay free o place n s d i)) where
+    abbrev RestLaid : List (Item K (Sub K n)) → Shown K → ℕ → List (Item K ℕ) × Shown K × ℕ → Type 0
+    RestLaid xs d i w = (map_rest (load w.1 n) w.0 ≡ xs) × (w.2 ≡ i + pages_rest (unmarked K o n) xs) × ((b : ℕ) → B i b → w.1 b ≡ d b) × All (Child (Sectors (B w.2) w.1 n)) w.0
+
+    -- a child before those that are laid behind it
+    first-laid : (s : Sub K n) (xs : List (Item K (Sub K n))) → ((d : Shown K) (i : ℕ) → Keeps d → i + pages_rest (unmarked K o n) xs ≤ m → RestLaid xs d i (lay_rest (lay free o place n) xs d i)) →
+        (d : Shown K) (i : ℕ) → Keeps d → i + sum_children (unmarked K o n) (page s xs) ≤ m → PageLaid n (page s xs) d i (lay_page (lay free o place n) (page s xs) d i)
+    first-laid s xs rests d i k l =
         let u = lay free o place n s d i in
         let p = lays s d i k (omega arith) in
         let pu = p.1 in
         let keep : Keeps u.1 = λ b h. p.2 b (more 0 i (omega arith) b h) ∙ k b h in
         let w = lay_rest (lay free o place n) xs u.1 u.2 in
-        let q = rest-laid xs u.1 u.2 keep (omega arith) in
+        let q = rests u.1 u.2 keep (omega arith) in
         let qu = q.1 in
         let up : (b : ℕ) → B u.2 b → B w.2 b = more u.2 w.2 (omega arith) in
-        let s' : load w.1 n u.0 ≡ s = load-stays u.1 w.1 (B u.2) (B w.2) up q.2 n u.0 p.3 ∙ p.0 in (
-          ap₂ (λ (y : Sub K n) (z : List (Item K (Sub K n))). page y z) s' q.0,
-          omega arith,
-          λ b h. q.2 b (more i u.2 (omega arith) b h) ∙ p.2 b h,
-          (sectors-stay u.1 w.1 (B u.2) (B w.2) up q.2 n u.0 p.3, q.3),
-        )
+        let s' : load w.1 n u.0 ≡ s = load-stays u.1 w.1 (B u.2) (B w.2) up q.2 n u.0 p.3 ∙ p.0 in
+        (ap₂ page s' q.0, omega arith, λ b h. q.2 b (more i u.2 (omega arith) b h) ∙ p.2 b h, (sectors-stay u.1 w.1 (B u.2) (B w.2) up q.2 n u.0 p.3, q.3))
+
+    pub rest-laid : (xs : List (Item K (Sub K n))) (d : Shown K) (i : ℕ) → Keeps d → i + pages_rest (unmarked K o n) xs ≤ m → RestLaid xs d i (lay_rest (lay free o place n) xs d i)
+    rest-laid [] d i k l = (refl, omega arith, λ b h. refl, tt)
+    rest-laid (item e s ∷ xs) d i k l = let h = first-laid s xs (λ d i k l. rest-laid xs d i k l) d i k l in (ap (behind e) h.0, h.1, h.2, h.3)
+
+    pub page-laid : (s : Sub K (suc n)) (d : Shown K) (i : ℕ) → Keeps d → i + sum_children (unmarked K o n) s ≤ m → PageLaid n s d i (lay_page (lay free o place n) s d i)
+    page-laid (page s xs) d i k l = first-laid s xs (rest-laid xs) d i k l
 
   pub laid : (n : ℕ) (s : Sub K n) (d : Shown K) (i : ℕ) → Keeps d → i + unmarked K o n s ≤ m → Laid n s d i (lay free o place n s d i)
   laid zero s d i k l = (refl, omega arith, λ b h. refl, tt)
@@ -69,7 +63,7 @@ module _ (K : Type 0) (free : ℕ → ℕ) (r m : ℕ) (distinct : (i j : ℕ) �
       w = lay_page (lay free o place n) s d i
 
       go : (b : Bool) → o (suc n) s ≡ b → i + unmarked K o (suc n) s ≤ m →
-          (i + sum_children (unmarked K o n) s ≤ m → (map_page (load w.1 n) w.0 ≡ s) × (w.2 ≡ i + sum_children (unmarked K o n) s) × ((b : ℕ) → B i b → w.1 b ≡ d b) × Each (Sectors (B w.2) w.1 n) w.0) →
+          (i + sum_children (unmarked K o n) s ≤ m → PageLaid n s d i w) →
           Laid (suc n) s d i (cond {A = ℕ × Shown K × ℕ} b (place (suc n) s, d, i) (free w.2, write w.1 (free w.2) w.0, w.2 + 1))
       go true e l rec =
           let h = marked n s e in let z = h.2 in (

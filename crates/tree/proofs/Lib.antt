@@ -5,6 +5,7 @@ pub mod Insert
 pub mod Fill
 pub mod Count
 pub mod Pages
+pub mod Mend
 pub mod Present
 pub mod Delete
 pub mod Drain
@@ -18,7 +19,6 @@ pub mod DeleteCount
 pub mod Changes
 pub mod DeleteMost
 pub mod Shares
-pub mod Worked
 pub mod Tall
 pub mod Stored
 pub mod Laid
@@ -26,7 +26,8 @@ pub mod Shared
 pub mod Places
 pub mod Stay
 pub mod Freed
+pub mod Replaced
 pub mod FreedInsert
+pub mod Inserted
 pub mod Balance
 pub mod FreedCount
-pub mod StoredWorked

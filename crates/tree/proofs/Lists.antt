@@ -1,7 +1,7 @@
--- Lists of entries that rise.
-use Rattle.std.proofs.Common.{◌≡◌, ℕ, List, [], ◌∷◌, ◌++◌, refl, ap, ◌∙◌}
+-- Lists of entries that rise, and the children behind them.
+use Rattle.std.proofs.Common.{◌≡◌, ℕ, List, [], ◌∷◌, ◌++◌, refl, ap, ◌∙◌, arith}
 use Rattle.numbers.specs.Order.{Cmp, below, same, above, IsOrder}
-use Rattle.tree.specs.Tree.{Entry, pick, All, Under, Rises, absent, at}
+use Rattle.tree.specs.Tree.{Entry, pick, All, Under, Rises, absent, at, Item, item, Child}
 use Rattle.tree.specs.Laws.{put, without, find}
 use Rattle.tree.proofs.Order.{flip', above_same, above-above}
 
@@ -20,6 +20,17 @@ all_join P (x ∷ l) r h k = (h.0, all_join P l r h.1 k)
 pub all_map : {A : Type 0} (P Q : A → Type 0) (l : List A) → ((x : A) → P x → Q x) → All P l → All Q l
 all_map P Q [] f h = tt
 all_map P Q (x ∷ l) f h = (f x h.0, all_map P Q l f h.1)
+
+pub child_map : {K S : Type 0} (P Q : S → Type 0) → ((c : S) → P c → Q c) → (xs : List (Item K S)) → All (Child P) xs → All (Child Q) xs
+child_map P Q f [] a = tt
+child_map P Q f (item e d ∷ xs) a = (f d a.0, child_map P Q f xs a.1)
+
+pub child_both : {K S : Type 0} (P Q : S → Type 0) (xs : List (Item K S)) → All (Child P) xs → All (Child Q) xs → All (Child (λ (c : S). P c × Q c)) xs
+child_both P Q [] a b = tt
+child_both P Q (item e d ∷ xs) a b = ((a.0, b.0), child_both P Q xs a.1 b.1)
+
+pub not-found : (v : ℕ) → absent ≡ at v → ⊥
+not-found v h = let z : ◌≡◌ {A = ℕ} 0 1 = cc in absurd (omega arith)
 
 pub not-nil : {A : Type 0} (l : List A) (x : A) (r : List A) → l ++ (x ∷ r) ≡ [] → ◌≡◌ {A = ℕ} 0 1
 not-nil [] x r h = cc

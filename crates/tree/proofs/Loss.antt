@@ -1,10 +1,11 @@
 -- Pages lost when an entry goes.
-use Rattle.std.proofs.Common.{◌≡◌, ℕ, zero, suc, ◌+◌, ◌-◌, Bool, true, false, cond, List, [], ◌∷◌, refl, ap, ◌∙◌, ap₂, arith}
+use Rattle.std.proofs.Common.{◌≡◌, ℕ, zero, suc, ◌+◌, ◌-◌, List, [], ◌∷◌, refl, ap, ◌∙◌, ap₂, arith}
 use Rattle.numbers.specs.Order.{Cmp, below, same, above}
 use Rattle.tree.specs.Tree.{Entry, Item, item, Page, page, Sub, pick, Found, absent, at, lookup, Tree, All, Child, Full, FullPage, lowest, pages_rest, pages_page, pages_of, pages}
-use Rattle.tree.specs.Insert.{Up, two, tops, splice, before}
-use Rattle.tree.specs.Delete.{lacks, even, mend_page, mend, back, Got, none, got, max_last, past, alone, max_in, fill, take_max, del, shrink, if_found, del_in, mend_loss, take_max_loss, del_loss, collapse}
+use Rattle.tree.specs.Insert.{Up, tops, splice, before}
+use Rattle.tree.specs.Delete.{even, mend_page, mend, back, Got, none, got, max_last, past, alone, max_in, fill, take_max, del, shrink, if_found, del_in, mend_loss, take_max_loss, del_loss, collapse}
 use Rattle.tree.specs.Laws.{DeleteLoses}
+use Rattle.tree.proofs.Mend.{mended}
 use Rattle.tree.proofs.Pages.{pages_up, splice-pages, before-pages, tops-pos}
 use Rattle.tree.proofs.EvenCount.{even-pages}
 
@@ -94,18 +95,10 @@ del-same cmp (suc n) k t = del-page-same cmp n k (λ c. del-same cmp n k c) t
 
 -- THE PAGES
 mend_page-loses : {K S : Type 0} (π : S → ℕ) (p : Page K S) (e : Entry K) (q : Page K S) → let u = (mend_page p e q).0 in pages_up (pages_page π) u + (2 - tops u) ≡ pages_page π p + pages_page π q
-mend_page-loses {K} {S} π p e q = go (lacks p) (lacks q)
+mend_page-loses π p e q = mended (λ r. pages_up (pages_page π) r.0 + (2 - tops r.0) ≡ pages_page π p + pages_page π q) p e q (λ k. evened) (λ k l. evened) (λ k l. omega arith)
   where
-    u : Up K (Page K S)
-    u = even p e q
-
-    evened : pages_up (pages_page π) u + (2 - tops u) ≡ pages_page π p + pages_page π q
-    evened = let h = even-pages π p e q in let i = tops-pos u in omega (arith, h, i.0, i.1)
-
-    go : (a b : Bool) → let w = (cond {A = Up K (Page K S) × ℕ} a (u, tops u) (cond b (u, tops u) (two p e q, 1))).0 in pages_up (pages_page π) w + (2 - tops w) ≡ pages_page π p + pages_page π q
-    go true b = evened
-    go false true = evened
-    go false false = omega arith
+    evened : pages_up (pages_page π) (even p e q) + (2 - tops (even p e q)) ≡ pages_page π p + pages_page π q
+    evened = let h = even-pages π p e q in let i = tops-pos (even p e q) in omega (arith, h, i.0, i.1)
 
 mend-loses : (K : Type 0) (n : ℕ) (c : Sub K n) (e : Entry K) (d : Sub K n) → let r = mend_loss K n c e d in pages_up (pages_of K n) r.0 + r.1 ≡ pages_of K n c + pages_of K n d
 mend-loses K zero c e d = omega arith

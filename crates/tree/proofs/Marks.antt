@@ -1,9 +1,10 @@
 -- Old pages are marked, and every name has a home: what tells a new page from each marked one.
 use Rattle.std.proofs.Common.{◌≡◌, ℕ, zero, suc, ◌≤◌, Bool, true, false, ◌⊎◌, List, [], ◌∷◌, ◌++◌, length, sym, refl, ap, ◌∙◌, inl, inr, arith}
+use Rattle.std.proofs.lemmas.Bool.{false_from_ne_true}
 use Rattle.numbers.specs.Order.{Cmp, same}
 use Rattle.tree.specs.Tree.{Item, item, Page, page, Sub, All, Child, pages_rest, pages_page, Full}
 use Rattle.tree.specs.Fresh.{unmarked}
-use Rattle.tree.proofs.Lists.{all_left, all_right}
+use Rattle.tree.proofs.Lists.{all_left, all_right, child_map}
 
 -- some element is as P says
 abbrev pub Some : {A : Type 0} → (A → Type 0) → List A → Type 0
@@ -67,6 +68,12 @@ module _ {K : Type 0} where
   abbrev pub SomeChild : {S : Type 0} → (S → Type 0) → Page K S → Type 0
   SomeChild P (page c xs) = P c ⊎ Some (Child P) xs
 
+  abbrev pub EachChild : {S : Type 0} → (S → Type 0) → Page K S → Type 0
+  EachChild P (page c xs) = P c × All (Child P) xs
+
+  pub each-child : {S : Type 0} (P Q : S → Type 0) → ((c : S) → P c → Q c) → (p : Page K S) → EachChild P p → EachChild Q p
+  each-child P Q f (page c xs) h = (f c h.0, child_map P Q f xs h.1)
+
   abbrev pub MarkedPage : {S : Type 0} → (Page K S → Bool) → (S → Type 0) → Page K S → Type 0
   MarkedPage o M (page c xs) = (o (page c xs) ≡ true) × M c × All (Child M) xs
 
@@ -89,10 +96,6 @@ Marked K o (suc n) t = MarkedPage (o (suc n)) (Marked K o n) t
 abbrev pub Held : (K : Type 0) → ((n : ℕ) → Sub K n → Bool) → (n : ℕ) → Sub K n → Type 0
 Held K o n t = Full K n t × Marked K o n t
 
-pub held_all : (K : Type 0) (o : (n : ℕ) → Sub K n → Bool) (n : ℕ) (xs : List (Item K (Sub K n))) → All (Child (Full K n)) xs → All (Child (Marked K o n)) xs → All (Child (Held K o n)) xs
-held_all K o n [] a b = tt
-held_all K o n (item e d ∷ xs) a b = ((a.0, b.0), held_all K o n xs a.1 b.1)
-
 module _ {K : Type 0} (cmp : K → K → Cmp) (o : (n : ℕ) → Sub K n → Bool) (home : K → Home) where
   -- a page that o does not mark; below a leaf there is none
   abbrev pub New : (n : ℕ) → Sub K n → Type 0
@@ -109,18 +112,10 @@ module _ {K : Type 0} (cmp : K → K → Cmp) (o : (n : ℕ) → Sub K n → Boo
 
   module _ (marks : Marks) where
     pub new-child : (n : ℕ) (p : Sub K (suc n)) → SomeChild (New n) p → New (suc n) p
-    new-child n p s = go (o (suc n) p) refl
-      where
-        go : (b : Bool) → o (suc n) p ≡ b → b ≡ false
-        go true e = absurd (marks.closed n p e s)
-        go false e = refl
+    new-child n p s = false_from_ne_true (o (suc n) p) (λ e. marks.closed n p e s)
 
     pub new-stray : (n : ℕ) (c : Sub K n) (xs : List (Item K (Sub K n))) → Some (λ i. AtHome home (suc n) (length xs) i → ⊥) xs → New (suc n) (page c xs)
-    new-stray n c xs s = go (o (suc n) (page c xs)) refl
-      where
-        go : (b : Bool) → o (suc n) (page c xs) ≡ b → b ≡ false
-        go true e = absurd (some-not _ xs s (marks.own n c xs e))
-        go false e = refl
+    new-stray n c xs s = false_from_ne_true (o (suc n) (page c xs)) (λ e. some-not _ xs s (marks.own n c xs e))
 
     -- some entry is from a page of another size
     pub new-resized : (n l : ℕ) (c : Sub K n) (xs : List (Item K (Sub K n))) → (l ≡ length xs → ⊥) → Some (AtHome home (suc n) l) xs → New (suc n) (page c xs)

@@ -1,22 +1,18 @@
 -- The pages of a tree as marks.
-use Rattle.std.proofs.Common.{◌≡◌, ℕ, zero, suc, Bool, true, false, ◌&&◌, ◌||◌, eqb, ◌⊎◌, List, [], ◌∷◌, ◌++◌, length, refl, ap, ◌∙◌, subst, ap₂, inl, inr, arith}
-use Rattle.std.proofs.lemmas.Bool.{and_parts, and_from, or_cases, or_left, or_right, eqb-true, eq-eqb}
+use Rattle.std.proofs.Common.{◌≡◌, ℕ, zero, suc, Bool, true, false, ◌&&◌, ◌||◌, eqb, ◌⊎◌, List, [], ◌∷◌, ◌++◌, length, refl, ap, ◌∙◌, subst, ap₂, inl, inr, sym}
+use Rattle.std.proofs.lemmas.Bool.{and_parts, and_from, or_cases, or_left, or_right, eqb-true, eq-eqb, false≢true, true≢false}
 use Rattle.numbers.specs.Order.{Cmp, IsOrder}
 use Rattle.tree.specs.Tree.{Entry, Item, item, page, Sub, at, All, Child, flat_rest, flat, Rises}
 use Rattle.tree.specs.Laws.{find}
 use Rattle.tree.specs.Fresh.{IsSame, any_rest, same_entry, same_rest, same_page, same_sub, has}
-use Rattle.tree.proofs.Lists.{rises-left, rises-right}
-use Rattle.tree.proofs.Marks.{Some, AtHome, SomeChild, Marked, New, Marks}
+use Rattle.tree.proofs.Lists.{rises-left, rises-right, child_map}
+use Rattle.tree.proofs.Marks.{Some, AtHome, SomeChild, Marked, New, Marks, EachChild, each-child}
 use Rattle.tree.proofs.Homes.{Each, each_map, home_in, home, home_same, home-first, home-later, home-own}
 
 module _ {K : Type 0} (o o' : (n : ℕ) → Sub K n → Bool) (more : (n : ℕ) (s : Sub K n) → o n s ≡ true → o' n s ≡ true) where
-  mutual-more : (n : ℕ) (f : (d : Sub K n) → Marked K o n d → Marked K o' n d) (xs : List (Item K (Sub K n))) → All (Child (Marked K o n)) xs → All (Child (Marked K o' n)) xs
-  mutual-more n f [] a = tt
-  mutual-more n f (item e d ∷ xs) a = (f d a.0, mutual-more n f xs a.1)
-
   marked_more : (n : ℕ) (t : Sub K n) → Marked K o n t → Marked K o' n t
   marked_more zero t h = tt
-  marked_more (suc n) (page c xs) h = (more (suc n) (page c xs) h.0, marked_more n c h.1, mutual-more n (λ d k. marked_more n d k) xs h.2)
+  marked_more (suc n) (page c xs) h = (more (suc n) (page c xs) h.0, marked_more n c h.1, child_map (Marked K o n) (Marked K o' n) (λ d k. marked_more n d k) xs h.2)
 
 module _ {K : Type 0} (eq : K → K → Bool) (is : IsSame K eq) where
   pub entry-exact : (e g : Entry K) → same_entry eq e g ≡ true → e ≡ g
@@ -59,7 +55,7 @@ module _ {K : Type 0} (eq : K → K → Bool) (is : IsSame K eq) where
   rest_has : (m n : ℕ) (P : Sub K (suc n) → Type 0) (ys : List (Item K (Sub K m))) (xs : List (Item K (Sub K (suc n)))) → ((x : Sub K (suc n)) → any_rest (λ d. has eq m d (suc n) x) ys ≡ true → P x) →
       same_rest eq (same_sub eq m (suc n)) ys xs ≡ true → All (Child P) xs
   rest_has m n P [] [] inc h = tt
-  rest_has m n P [] (x ∷ xs) inc h = let z : ◌≡◌ {A = ℕ} 0 1 = cc in absurd (omega arith)
+  rest_has m n P [] (x ∷ xs) inc h = absurd (false≢true h)
   rest_has m n P (y ∷ ys) [] inc h = tt
   rest_has m n P (item e d ∷ ys) (item g c ∷ xs) inc h =
       let p = and_parts (same_entry eq e g) (same_sub eq m (suc n) d c && same_rest eq (same_sub eq m (suc n)) ys xs) h in
@@ -67,42 +63,36 @@ module _ {K : Type 0} (eq : K → K → Bool) (is : IsSame K eq) where
       (inc c (or_left _ _ (same-has m n d c q.0)), rest_has m n P ys xs (λ x k. inc x (or_right _ _ k)) q.1)
 
   abbrev pub HasAll : (M : ℕ) (t : Sub K M) (n : ℕ) → Sub K (suc (suc n)) → Type 0
-  HasAll M t n (page c xs) = (has eq M t (suc n) c ≡ true) × All (Child (λ d. has eq M t (suc n) d ≡ true)) xs
+  HasAll M t n p = EachChild (λ d. has eq M t (suc n) d ≡ true) p
 
-  all_more : (m : ℕ) (d : Sub K m) (M : ℕ) (t : Sub K M) (n : ℕ) (p : Sub K (suc (suc n))) → ((s : Sub K (suc n)) → has eq m d (suc n) s ≡ true → has eq M t (suc n) s ≡ true) → HasAll m d n p → HasAll M t n p
-  all_more m d M t n (page c xs) f h = (f c h.0, go xs h.1)
+  -- a page found in c or in one of the children ys right of it, of which each is closed
+  pub kids-closed : (m n : ℕ) (T : Sub K (suc n) → Type 0) (p : Sub K (suc (suc n))) → ((d : Sub K m) → has eq m d (suc (suc n)) p ≡ true → HasAll m d n p) → (c : Sub K m) (ys : List (Item K (Sub K m))) →
+      ((x : Sub K (suc n)) → (has eq m c (suc n) x || any_rest (λ d. has eq m d (suc n) x) ys) ≡ true → T x) → (has eq m c (suc (suc n)) p || any_rest (λ d. has eq m d (suc (suc n)) p) ys) ≡ true → EachChild T p
+  kids-closed m n T p each c [] inc h = go (or_cases (has eq m c (suc (suc n)) p) false h)
     where
-      go : (xs : List (Item K (Sub K (suc n)))) → All (Child (λ x. has eq m d (suc n) x ≡ true)) xs → All (Child (λ x. has eq M t (suc n) x ≡ true)) xs
-      go [] a = tt
-      go (item e x ∷ xs) a = (f x a.0, go xs a.1)
-
-  -- a page found in one of the children ys, of which each is closed
-  any-closed : (m M : ℕ) (t : Sub K M) (n : ℕ) (p : Sub K (suc (suc n))) (ys : List (Item K (Sub K m))) → ((d : Sub K m) → has eq m d (suc (suc n)) p ≡ true → HasAll m d n p) →
-      ((s : Sub K (suc n)) → any_rest (λ d. has eq m d (suc n) s) ys ≡ true → has eq M t (suc n) s ≡ true) → any_rest (λ d. has eq m d (suc (suc n)) p) ys ≡ true → HasAll M t n p
-  any-closed m M t n p [] each inc h = let z : ◌≡◌ {A = ℕ} 0 1 = cc in absurd (omega arith)
-  any-closed m M t n p (item e d ∷ ys) each inc h =
-      go (any-closed m M t n p ys each (λ s k. inc s (or_right (has eq m d (suc n) s) (any_rest (λ d. has eq m d (suc n) s) ys) k))) (or_cases (has eq m d (suc (suc n)) p) (any_rest (λ d. has eq m d (suc (suc n)) p) ys) h)
+      go : (has eq m c (suc (suc n)) p ≡ true) ⊎ (false ≡ true) → EachChild T p
+      go (inl e) = each-child _ T (λ x k. inc x (or_left (has eq m c (suc n) x) false k)) p (each c e)
+      go (inr e) = absurd (false≢true e)
+  kids-closed m n T p each c (item g b ∷ ys) inc h =
+      go (kids-closed m n T p each b ys (λ x k. inc x (or_right (has eq m c (suc n) x) (has eq m b (suc n) x || any_rest (λ d. has eq m d (suc n) x) ys) k))) (or_cases (has eq m c (suc (suc n)) p) (has eq m b (suc (suc n)) p || any_rest (λ d. has eq m d (suc (suc n)) p) ys) h)
     where
-      go : (any_rest (λ d. has eq m d (suc (suc n)) p) ys ≡ true → HasAll M t n p) → (has eq m d (suc (suc n)) p ≡ true) ⊎ (any_rest (λ d. has eq m d (suc (suc n)) p) ys ≡ true) → HasAll M t n p
-      go r (inl h) = all_more m d M t n p (λ s k. inc s (or_left (has eq m d (suc n) s) (any_rest (λ d. has eq m d (suc n) s) ys) k)) (each d h)
-      go r (inr h) = r h
+      go : ((has eq m b (suc (suc n)) p || any_rest (λ d. has eq m d (suc (suc n)) p) ys) ≡ true → EachChild T p) → (has eq m c (suc (suc n)) p ≡ true) ⊎ ((has eq m b (suc (suc n)) p || any_rest (λ d. has eq m d (suc (suc n)) p) ys) ≡ true) → EachChild T p
+      go rec (inl e) = each-child _ T (λ x k. inc x (or_left (has eq m c (suc n) x) (has eq m b (suc n) x || any_rest (λ d. has eq m d (suc n) x) ys) k)) p (each c e)
+      go rec (inr e) = rec e
 
   pub has-closed : (m : ℕ) (t : Sub K m) (n : ℕ) (p : Sub K (suc (suc n))) → has eq m t (suc (suc n)) p ≡ true → HasAll m t n p
-  has-closed zero t n p h = let z : ◌≡◌ {A = ℕ} 0 1 = cc in absurd (omega arith)
+  has-closed zero t n p h = absurd (false≢true h)
   has-closed (suc m) (page d ys) n (page c xs) h =
       go (λ b k. has-closed m b n (page c xs) k) (or_cases (same_page eq (same_sub eq m (suc n)) (page d ys) (page c xs)) (has eq m d (suc (suc n)) (page c xs) || any_rest (λ d. has eq m d (suc (suc n)) (page c xs)) ys) h)
     where
-      under : ((b : Sub K m) → has eq m b (suc (suc n)) (page c xs) ≡ true → HasAll m b n (page c xs)) → (has eq m d (suc (suc n)) (page c xs) ≡ true) ⊎ (any_rest (λ d. has eq m d (suc (suc n)) (page c xs)) ys ≡ true) →
-          HasAll (suc m) (page d ys) n (page c xs)
-      under r (inl h) = all_more m d (suc m) (page d ys) n (page c xs) (λ s k. in-first m d ys (suc n) s k) (r d h)
-      under r (inr h) = any-closed m (suc m) (page d ys) n (page c xs) ys r (λ s k. in_rest m d ys (suc n) s k) h
-
       go : ((b : Sub K m) → has eq m b (suc (suc n)) (page c xs) ≡ true → HasAll m b n (page c xs)) →
           (same_page eq (same_sub eq m (suc n)) (page d ys) (page c xs) ≡ true) ⊎ ((has eq m d (suc (suc n)) (page c xs) || any_rest (λ d. has eq m d (suc (suc n)) (page c xs)) ys) ≡ true) → HasAll (suc m) (page d ys) n (page c xs)
       go r (inl h) =
           let p = and_parts (same_sub eq m (suc n) d c) (same_rest eq (same_sub eq m (suc n)) ys xs) h in
           (in-first m d ys (suc n) c (same-has m n d c p.0), rest_has m n (λ x. has eq (suc m) (page d ys) (suc n) x ≡ true) ys xs (λ s k. in_rest m d ys (suc n) s k) p.1)
-      go r (inr h) = under r (or_cases (has eq m d (suc (suc n)) (page c xs)) (any_rest (λ d. has eq m d (suc (suc n)) (page c xs)) ys) h)
+      go r (inr h) =
+          kids-closed m n (λ x. has eq (suc m) (page d ys) (suc n) x ≡ true) (page c xs) r d ys
+          (λ x k. or_right (same_sub eq (suc m) (suc n) (page d ys) x) (has eq m d (suc n) x || any_rest (λ b. has eq m b (suc n) x) ys) k) h
 
   -- the same page has the same entries, on the same level
   pub level-same : (m n : ℕ) (s : Sub K m) (t : Sub K n) → same_sub eq m n s t ≡ true → m ≡ n
@@ -119,7 +109,7 @@ module _ {K : Type 0} (eq : K → K → Bool) (is : IsSame K eq) where
 
   each_same : {S T : Type 0} (P : Entry K → Type 0) (f : S → T → Bool) (xs : List (Item K S)) (ys : List (Item K T)) → same_rest eq f xs ys ≡ true → All (Each P) xs → All (Each P) ys
   each_same P f [] [] h a = tt
-  each_same P f [] (y ∷ ys) h a = let z : ◌≡◌ {A = ℕ} 0 1 = cc in absurd (omega arith)
+  each_same P f [] (y ∷ ys) h a = absurd (false≢true h)
   each_same P f (x ∷ xs) [] h a = tt
   each_same P f (item e c ∷ xs) (item g d ∷ ys) h a =
       let p = and_parts (same_entry eq e g) (f c d && same_rest eq f xs ys) h in
@@ -141,7 +131,7 @@ module _ {K : Type 0} (eq : K → K → Bool) (is : IsSame K eq) where
       where
         go : (has eq m c (suc n) p ≡ true) ⊎ (false ≡ true) → All (Each (StandsIn m j k c [] (suc n) l)) xs
         go (inl h) = each_map _ _ xs (λ e s. let i = home-first cmp ord (flat K m) j k (home cmp m e.0) e.0 e.1 c [] r s.1 in (s.0, i.1)) (each c (rises-left cmp ord (flat K m c) [] r) h)
-        go (inr h) = let z : ◌≡◌ {A = ℕ} 0 1 = cc in absurd (omega arith)
+        go (inr h) = absurd (false≢true h)
     under-stands m j k n l p xs each c (item g d ∷ ys) r h =
         go (under-stands m j k n l p xs each d ys (rises-right cmp ord (flat K m c) _ r).1) (or_cases (has eq m c (suc n) p) (has eq m d (suc n) p || any_rest (λ d. has eq m d (suc n) p) ys) h)
       where
@@ -152,7 +142,7 @@ module _ {K : Type 0} (eq : K → K → Bool) (is : IsSame K eq) where
         go rec (inr h) = each_map _ _ xs (λ e s. let i = home-later cmp ord (flat K m) j k (home cmp m e.0) e.0 e.1 c g d ys r s.1 in (i.0 ∙ s.0, i.1)) (rec h)
 
     has-stands : (m : ℕ) (t : Sub K m) → Rises cmp (flat K m t) → (n : ℕ) (c : Sub K n) (xs : List (Item K (Sub K n))) → has eq m t (suc n) (page c xs) ≡ true → All (Each (Stands m t (suc n) (length xs))) xs
-    has-stands zero t r n c xs h = let z : ◌≡◌ {A = ℕ} 0 1 = cc in absurd (omega arith)
+    has-stands zero t r n c xs h = absurd (false≢true h)
     has-stands (suc m) (page d ys) r n c xs h =
         go (λ b k i. has-stands m b k n c xs i) (or_cases (same_page eq (same_sub eq m n) (page d ys) (page c xs)) (has eq m d (suc n) (page c xs) || any_rest (λ d. has eq m d (suc n) (page c xs)) ys) h)
       where
@@ -182,11 +172,11 @@ module _ {K : Type 0} (eq : K → K → Bool) (is : IsSame K eq) where
 
         not-rest : (n : ℕ) (xs : List (Item K (Sub K (suc n)))) → All (Child (λ d. has eq m t (suc n) d ≡ true)) xs → Some (Child (λ d. has eq m t (suc n) d ≡ false)) xs → ⊥
         not-rest n [] a s = s
-        not-rest n (item e d ∷ xs) a (inl s) = let z : ◌≡◌ {A = ℕ} 0 1 = cc in absurd (omega arith)
+        not-rest n (item e d ∷ xs) a (inl s) = true≢false (sym a.0 ∙ s)
         not-rest n (item e d ∷ xs) a (inr s) = not-rest n xs a.1 s
 
         none-new : (n : ℕ) (p : Sub K (suc (suc n))) → HasAll m t n p → SomeChild (λ d. has eq m t (suc n) d ≡ false) p → ⊥
-        none-new n (page c xs) h (inl s) = let z : ◌≡◌ {A = ℕ} 0 1 = cc in absurd (omega arith)
+        none-new n (page c xs) h (inl s) = true≢false (sym h.0 ∙ s)
         none-new n (page c xs) h (inr s) = not-rest n xs h.1 s
 
         no-child : (xs : List (Item K (Sub K 0))) → Some (Child (λ (d : Sub K 0). ⊥)) xs → ⊥

@@ -5,7 +5,7 @@ use Rattle.numbers.specs.Order.{Cmp, below, same, above, IsOrder}
 use Rattle.tree.specs.Tree.{absent, at, lookup, Rises, Good, Entry, Item, item, Page, page, Sub, flat_rest, flat_page, flat, pick, Tree, to_list, All, pages_rest, pages_page, pages_of, pages}
 use Rattle.tree.specs.Insert.{Up, one, two, tops, splice, before, halves, cut, fit, ins_in, ins_page, ins, grow, insert}
 use Rattle.tree.specs.Laws.{find, InsertSix}
-use Rattle.tree.proofs.Lists.{all_left, all_right, all_map}
+use Rattle.tree.proofs.Lists.{all_left, all_right, all_map, not-found}
 use Rattle.tree.proofs.Look.{lookup-finds}
 
 module _ {K : Type 0} where
@@ -66,7 +66,7 @@ module _ {K : Type 0} (cmp : K → K → Cmp) (ord : IsOrder K cmp) where
 
       go : (o : Cmp) → cmp k e.0 ≡ o → (find cmp k l ≡ absent → LacksName k l) → pick o absent (at e.1) (find cmp k l) ≡ absent → LacksName k (e ∷ l)
       go below b i h = (not-below e.0 b, all_map _ _ l (λ x c. not-below x.0 (ord.carried k e.0 x.0 b c)) r.0)
-      go same b i h = let z : ◌≡◌ {A = ℕ} 0 1 = cc in absurd (omega arith)
+      go same b i h = absurd (not-found e.1 (sym h))
       go above b i h = (λ s. differs (sym b ∙ s), i h)
 
   module _ {S : Type 0} (π : S → ℕ) where

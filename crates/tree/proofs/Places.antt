@@ -222,7 +222,7 @@ mem-split x (y ∷ l) r (inr s) = go (mem-split x l r s)
     go (inl s) = inl (inr s)
     go (inr s) = inr s
 
-not-mem : (x : ℕ) (l : List ℕ) → (Mem x l → ⊥) → All (λ (y : ℕ). x ≡ y → ⊥) l
+pub not-mem : (x : ℕ) (l : List ℕ) → (Mem x l → ⊥) → All (λ (y : ℕ). x ≡ y → ⊥) l
 not-mem x [] h = tt
 not-mem x (y ∷ l) h = (λ e. h (inl (sym e)), not-mem x l (λ s. h (inr s)))
 

@@ -5,7 +5,8 @@ use Rattle.numbers.specs.Order.{Cmp, below, same, above, IsOrder}
 use Rattle.tree.specs.Tree.{Entry, Item, item, Page, page, Sub, pick, Found, absent, at, look_in, look_page, look, lookup, Tree, All, Child, Full, FullPage, lowest, Good, pages_rest, pages_page, pages_of, pages}
 use Rattle.tree.specs.Delete.{size, if_found}
 use Rattle.tree.specs.Insert.{Up, one, two, splice, before, fit, ins_in, ins_page, ins, grow, insert}
-use Rattle.tree.specs.Laws.{InsertAgain, InsertPath, InsertGains, EmptyGood}
+use Rattle.tree.specs.Laws.{InsertAgain, InsertPath, InsertGains}
+use Rattle.tree.proofs.Lists.{not-found}
 use Rattle.tree.proofs.Pages.{before-pages, insert-pages, tops-pos}
 
 module _ {K : Type 0} (cmp : K → K → Cmp) (ord : IsOrder K cmp) where
@@ -47,7 +48,7 @@ module _ {K : Type 0} (cmp : K → K → Cmp) (ord : IsOrder K cmp) where
         record { it = (ins_in cmp f x c xs).0; is = o; same-pages = k.1; few = rw o (omega arith) }
 
   ins-kept : (n : ℕ) (x : Entry K) (w : ℕ) (t : Sub K n) → Full K n t → look cmp n x.0 t ≡ at w → Kept (pages_of K n) n (pages_of K n t) (ins cmp n x t)
-  ins-kept zero x w t h e = absurd (let z : ◌≡◌ {A = ℕ} 0 1 = cc in omega arith)
+  ins-kept zero x w t h e = absurd (not-found w e)
   ins-kept (suc n) x w t h e = ins_page-kept (Full K n) (pages_of K n) n x w (ins cmp n x) (look cmp n x.0) (λ c p i. ins-kept n x w c p i) 12 t h e
 
   grow-kept : (n : ℕ) (u : Up K (Sub K (suc n))) (k : ℕ) (p : Sub K (suc n)) (a : ℕ) → u ≡ one p → pages_of K (suc n) p ≡ a → k ≤ suc n → (pages (grow n (u, k)).0 ≡ a) × ((grow n (u, k)).1 ≤ n)
@@ -72,7 +73,7 @@ module _ {K : Type 0} (cmp : K → K → Cmp) (ord : IsOrder K cmp) where
         go : (o : Cmp) → (look_in cmp g x.0 d xs ≡ absent → n ≤ w.1) → pick o (g c) (at e.1) (look_in cmp g x.0 d xs) ≡ absent →
             n ≤ (pick {A = Page K S × ℕ} o (splice (f c).0 (item e d ∷ xs), (f c).1) (page c (item x d ∷ xs), 0) (before c e w.0, w.1)).1
         go below i q = right c q
-        go same i q = let z : ◌≡◌ {A = ℕ} 0 1 = cc in absurd (omega arith)
+        go same i q = absurd (not-found e.1 (sym q))
         go above i q = i q
 
     ins_page-least : (p : Page K S) → look_page cmp g x.0 p ≡ absent → suc n ≤ (ins_page cmp f x p).1
@@ -121,7 +122,7 @@ module _ {K : Type 0} (cmp : K → K → Cmp) (ord : IsOrder K cmp) where
     ins_page-again low (page c xs) h q = ap fit (ins_in-again c xs h.2 h.3 q) ∙ fit-one (page c xs) h.1
 
   ins-again : ((a b : K) → cmp a b ≡ same → a ≡ b) → (n : ℕ) (x : Entry K) (t : Sub K n) → Full K n t → look cmp n x.0 t ≡ at x.1 → (ins cmp n x t).0 ≡ one t
-  ins-again exact zero x t h e = absurd (let z : ◌≡◌ {A = ℕ} 0 1 = cc in omega arith)
+  ins-again exact zero x t h e = absurd (not-found x.1 e)
   ins-again exact (suc n) x t h e = ins_page-again (Full K n) exact x (ins cmp n x) (look cmp n x.0) (λ c p i. ins-again exact n x c p i) 12 t h e
 
   grow-again : (n : ℕ) (u : Up K (Sub K (suc n))) (k : ℕ) (p : Sub K (suc n)) → u ≡ one p → (grow n (u, k)).0 ≡ record { over = n; root = p }
@@ -131,6 +132,3 @@ module _ {K : Type 0} (cmp : K → K → Cmp) (ord : IsOrder K cmp) where
   insert-again exact t k v g e =
       let u = ins cmp (suc t.over) (k, v) t.root in
       grow-again t.over u.0 u.1 t.root (ins_page-again (Full K t.over) exact (k, v) (ins cmp t.over (k, v)) (look cmp t.over k) (λ c p i. ins-again exact t.over (k, v) c p i) (lowest t.over) t.root g.filled e)
-
-  pub empty-good : EmptyGood cmp
-  empty-good = record { rises = tt; few = omega arith; filled = (omega arith, omega arith, tt, tt) }

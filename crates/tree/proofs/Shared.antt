@@ -1,23 +1,17 @@
--- Where the pages of an old tree stand, and a delete that leaves shared pages there.
-use Rattle.std.proofs.Common.{◌≡◌, ℕ, zero, suc, ◌+◌, ◌≤◌, Bool, true, false, cond, ◌&&◌, ◌||◌, ◌⊎◌, List, [], ◌∷◌, sym, refl, ap, ◌∙◌, subst, ap₂, inl, inr, arith}
-use Rattle.std.proofs.lemmas.Bool.{and_parts, or_cases, or_left, or_right}
-use Rattle.tree.specs.Tree.{Item, item, Page, page, Sub, Tree, All, Child, pages_rest}
-use Rattle.tree.specs.Fresh.{IsSame, any_rest, any_child, same_entry, same_rest, same_sub, has, sum_children, unmarked, changed}
-use Rattle.tree.specs.Stored.{Shown, map_rest, map_page, load, loaded, write, Each, Sectors, Off, first_in, first_page, where_is, has_below, lay_page, lay, Ready, ReplaceStores, DeleteStores}
-use Rattle.tree.proofs.Old.{entry-exact, level-same, HasAll, has-closed}
-use Rattle.tree.proofs.Marks.{rest-old}
-use Rattle.tree.proofs.Stored.{page-frames, load-stays, write_same, write-other, off-more}
-use Rattle.tree.specs.Delete.{delete}
-use Rattle.numbers.specs.Order.{Cmp, IsOrder}
-use Rattle.tree.proofs.Changes.{delete-changes}
-use Rattle.tree.proofs.Drain.{delete-over}
-use Rattle.tree.proofs.Laid.{page-laid, laid}
+-- Pages of an old tree: the same page is one page, and below a page that is old no page is new.
+use Rattle.std.proofs.Common.{◌≡◌, ℕ, zero, suc, ◌+◌, ◌≤◌, Bool, true, false, cond, ◌&&◌, ◌||◌, List, [], ◌∷◌, refl, ap, ap₂, arith}
+use Rattle.std.proofs.lemmas.Bool.{and_parts, false≢true}
+use Rattle.tree.specs.Tree.{Item, item, Page, page, Sub, Tree, pages_rest}
+use Rattle.tree.specs.Fresh.{IsSame, any_child, same_entry, same_rest, same_sub, has, sum_children, unmarked, changed}
+use Rattle.tree.specs.Stored.{has_below}
+use Rattle.tree.proofs.Old.{entry-exact, level-same, has-closed, kids-closed}
+use Rattle.tree.proofs.Marks.{rest-old, EachChild}
 
 module _ {K : Type 0} (eq : K → K → Bool) (is : IsSame K eq) where
   rest-exact : {S : Type 0} (f : S → S → Bool) → ((a b : S) → f a b ≡ true → a ≡ b) → (xs ys : List (Item K S)) → same_rest eq f xs ys ≡ true → xs ≡ ys
   rest-exact f h [] [] e = refl
-  rest-exact f h [] (y ∷ ys) e = let z : ◌≡◌ {A = ℕ} 0 1 = cc in absurd (omega arith)
-  rest-exact f h (x ∷ xs) [] e = let z : ◌≡◌ {A = ℕ} 0 1 = cc in absurd (omega arith)
+  rest-exact f h [] (y ∷ ys) e = absurd (false≢true e)
+  rest-exact f h (x ∷ xs) [] e = absurd (false≢true e)
   rest-exact {S} f h (item a c ∷ xs) (item b d ∷ ys) e =
       let p = and_parts (same_entry eq a b) (f c d && same_rest eq f xs ys) e in
       let q = and_parts (f c d) (same_rest eq f xs ys) p.1 in
@@ -28,72 +22,9 @@ module _ {K : Type 0} (eq : K → K → Bool) (is : IsSame K eq) where
   sub-exact (suc n) (page c xs) (page d ys) h =
       let p = and_parts (same_sub eq n n c d) (same_rest eq (same_sub eq n n) xs ys) h in ap₂ page (sub-exact n c d p.0) (rest-exact (same_sub eq n n) (λ a b e. sub-exact n a b e) xs ys p.1)
 
-  module _ (d : Shown K) (B : ℕ → Type 0) where
-    -- s stands at a
-    abbrev pub At : (n : ℕ) → Sub K n → ℕ → Type 0
-    At n s a = (load d n a ≡ s) × Sectors B d n a
-
-    same_at : (m n a : ℕ) (s : Sub K n) → Sectors B d m a → same_sub eq m n (load d m a) s ≡ true → At n s a
-    same_at m n a s h e = go (level-same eq is m n (load d m a) s e) s e
-      where
-        go : m ≡ n → (s : Sub K n) → same_sub eq m n (load d m a) s ≡ true → At n s a
-        go q = subst (λ (z : ℕ). (s : Sub K z) → same_sub eq m z (load d m a) s ≡ true → At z s a) q (λ s e. (sub-exact m (load d m a) s e, h))
-
-    first-at : (m n : ℕ) (s : Sub K n) (h : ℕ → Bool) (f : ℕ → ℕ) → ((b : ℕ) → Sectors B d m b → h b ≡ true → At n s (f b)) → (c : ℕ) (xs : List (Item K ℕ)) → Sectors B d m c → All (Child (Sectors B d m)) xs →
-        (g : Sub K m → Bool) → ((b : ℕ) → g (load d m b) ≡ h b) → (g (load d m c) || any_rest g (map_rest (load d m) xs)) ≡ true → At n s (first_in eq d h f c xs)
-    first-at m n s h f each c [] p a g same e = go (or_cases (g (load d m c)) false e)
-      where
-        go : (g (load d m c) ≡ true) ⊎ (false ≡ true) → At n s (f c)
-        go (inl e) = each c p (sym (same c) ∙ e)
-        go (inr e) = let z : ◌≡◌ {A = ℕ} 0 1 = cc in absurd (omega arith)
-    first-at m n s h f each c (item e b ∷ xs) p a g same q = go (h c) refl (first-at m n s h f each b xs a.0 a.1 g same)
-      where
-        go : (o : Bool) → h c ≡ o → ((g (load d m b) || any_rest g (map_rest (load d m) xs)) ≡ true → At n s (first_in eq d h f b xs)) → At n s (cond o (f c) (first_in eq d h f b xs))
-        go true e r = each c p e
-        go false e r = r (rw (same c ∙ e) at q)
-
-    pub page-at : (m n : ℕ) (s : Sub K n) → ((b : ℕ) → Sectors B d m b → has eq m (load d m b) n s ≡ true → At n s (where_is eq d m b n s)) → (p : Page K ℕ) → Each (Sectors B d m) p →
-        any_child (λ c. has eq m c n s) (map_page (load d m) p) ≡ true → At n s (first_page eq d (λ b. has eq m (load d m b) n s) (λ b. where_is eq d m b n s) p)
-    page-at m n s each (page c xs) h e = first-at m n s (λ b. has eq m (load d m b) n s) (λ b. where_is eq d m b n s) each c xs h.0 h.1 (λ c. has eq m c n s) (λ b. refl) e
-
-    pub where-at : (m a n : ℕ) (s : Sub K n) → Sectors B d m a → has eq m (load d m a) n s ≡ true → At n s (where_is eq d m a n s)
-    where-at zero a n s h e = let z : ◌≡◌ {A = ℕ} 0 1 = cc in absurd (omega arith)
-    where-at (suc m) a n s h e = go (same_sub eq (suc m) n (load d (suc m) a) s) refl (page-at m n s (λ b i j. where-at m b n s i j) (d a) h.1) e
-      where
-        go : (o : Bool) → same_sub eq (suc m) n (load d (suc m) a) s ≡ o →
-            (any_child (λ c. has eq m c n s) (map_page (load d m) (d a)) ≡ true → At n s (first_page eq d (λ b. has eq m (load d m b) n s) (λ b. where_is eq d m b n s) (d a))) →
-            (o || any_child (λ c. has eq m c n s) (map_page (load d m) (d a))) ≡ true →
-            At n s (cond o a (first_page eq d (λ b. has eq m (load d m b) n s) (λ b. where_is eq d m b n s) (d a)))
-        go true q r e = same_at (suc m) n a s h q
-        go false q r e = r e
-
   -- WITH A PAGE BELOW THE ROOT ITS CHILDREN ARE THERE TOO
-  abbrev Kids : (n : ℕ) → (Sub K (suc n) → Type 0) → Sub K (suc (suc n)) → Type 0
-  Kids n T (page c xs) = T c × All (Child T) xs
-
-  kids-map : (n m : ℕ) (c : Sub K m) (T : Sub K (suc n) → Type 0) → ((x : Sub K (suc n)) → has eq m c (suc n) x ≡ true → T x) → (p : Sub K (suc (suc n))) → HasAll eq is m c n p → Kids n T p
-  kids-map n m c T f (page b xs) h = (f b h.0, go xs h.1)
-    where
-      go : (xs : List (Item K (Sub K (suc n)))) → All (Child (λ x. has eq m c (suc n) x ≡ true)) xs → All (Child T) xs
-      go [] a = tt
-      go (item e x ∷ xs) a = (f x a.0, go xs a.1)
-
-  kids-rest : (n m : ℕ) (T : Sub K (suc n) → Type 0) (p : Sub K (suc (suc n))) (c : Sub K m) (ys : List (Item K (Sub K m))) →
-      ((x : Sub K (suc n)) → (has eq m c (suc n) x || any_rest (λ d. has eq m d (suc n) x) ys) ≡ true → T x) → (has eq m c (suc (suc n)) p || any_rest (λ d. has eq m d (suc (suc n)) p) ys) ≡ true → Kids n T p
-  kids-rest n m T p c [] inc h = go (or_cases (has eq m c (suc (suc n)) p) false h)
-    where
-      go : (has eq m c (suc (suc n)) p ≡ true) ⊎ (false ≡ true) → Kids n T p
-      go (inl e) = kids-map n m c T (λ x k. inc x (or_left (has eq m c (suc n) x) false k)) p (has-closed eq is m c n p e)
-      go (inr e) = let z : ◌≡◌ {A = ℕ} 0 1 = cc in absurd (omega arith)
-  kids-rest n m T p c (item g b ∷ ys) inc h =
-      go (kids-rest n m T p b ys (λ x k. inc x (or_right (has eq m c (suc n) x) (has eq m b (suc n) x || any_rest (λ d. has eq m d (suc n) x) ys) k))) (or_cases (has eq m c (suc (suc n)) p) (has eq m b (suc (suc n)) p || any_rest (λ d. has eq m d (suc (suc n)) p) ys) h)
-    where
-      go : ((has eq m b (suc (suc n)) p || any_rest (λ d. has eq m d (suc (suc n)) p) ys) ≡ true → Kids n T p) → (has eq m c (suc (suc n)) p ≡ true) ⊎ ((has eq m b (suc (suc n)) p || any_rest (λ d. has eq m d (suc (suc n)) p) ys) ≡ true) → Kids n T p
-      go rec (inl e) = kids-map n m c T (λ x k. inc x (or_left (has eq m c (suc n) x) (has eq m b (suc n) x || any_rest (λ d. has eq m d (suc n) x) ys) k)) p (has-closed eq is m c n p e)
-      go rec (inr e) = rec e
-
-  below-kids : (m : ℕ) (q : Sub K (suc m)) (n : ℕ) (p : Sub K (suc (suc n))) → any_child (λ c. has eq m c (suc (suc n)) p) q ≡ true → Kids n (λ x. any_child (λ c. has eq m c (suc n) x) q ≡ true) p
-  below-kids m (page c ys) n p h = kids-rest n m (λ x. any_child (λ c. has eq m c (suc n) x) (page c ys) ≡ true) p c ys (λ x k. k) h
+  below-kids : (m : ℕ) (q : Sub K (suc m)) (n : ℕ) (p : Sub K (suc (suc n))) → any_child (λ c. has eq m c (suc (suc n)) p) q ≡ true → EachChild (λ x. any_child (λ c. has eq m c (suc n) x) q ≡ true) p
+  below-kids m (page c ys) n p h = kids-closed eq is m n (λ x. any_child (λ c. has eq m c (suc n) x) (page c ys) ≡ true) p (λ d k. has-closed eq is m d n p k) c ys (λ x k. k) h
 
   pub below_none : (t : Tree K) (n : ℕ) (s : Sub K (suc n)) → has_below eq t (suc n) s ≡ true → unmarked K (has_below eq t) (suc n) s ≡ 0
   below_none t zero (page c xs) h = rw h (let j = leaf xs in omega arith)
@@ -132,47 +63,3 @@ pub changed-below : {K : Type 0} (eq : K → K → Bool) → IsSame K eq → (t 
 changed-below {K} eq is t u l =
     sum_same (unmarked K (λ n s. has eq (suc t.over) t.root n s) u.over) (unmarked K (has_below eq t) u.over)
     (λ c. unmarked-same K (λ n s. has eq (suc t.over) t.root n s) (has_below eq t) u.over (λ n s i. has-below eq is t n s (omega arith)) u.over c (omega arith)) u.root
-
-pub replace-stores : (K : Type 0) → ReplaceStores K
-replace-stores K eq is free d n r u l ready = record { tree = ap (λ (z : Sub K (suc u.over)). record { over = u.over; root = z }) t; taken = taken; kept = λ b o. keep b (off-more K free r m ready.distinct ready.apart 0 w.2 (omega arith) b o) ∙ p.2 b o }
-  where
-    old : Tree K
-    old = loaded d n r
-
-    m : ℕ
-    m = changed eq (loaded d n r) u
-
-    o : (j : ℕ) → Sub K j → Bool
-    o = has_below eq (loaded d n r)
-
-    place : (j : ℕ) → Sub K j → ℕ
-    place j s = first_page eq d (λ b. has eq n (load d n b) j s) (λ b. where_is eq d n b j s) (d r)
-
-    marked : (j : ℕ) (s : Sub K (suc j)) → o (suc j) s ≡ true → (load d (suc j) (place (suc j) s) ≡ s) × Sectors (Off free r m 0) d (suc j) (place (suc j) s) × (unmarked K o (suc j) s ≡ 0)
-    marked j s e =
-        let h = page-at eq is d (Off free r m 0) n (suc j) s (λ b i k. where-at eq is d (Off free r m 0) n b (suc j) s i k) (d r) ready.off e in
-        (h.0, h.1, below_none eq is (loaded d n r) j s e)
-
-    w : Page K ℕ × Shown K × ℕ
-    w = lay_page (lay free o place u.over) u.root d 0
-
-    c : m ≡ sum_children (unmarked K o u.over) u.root
-    c = changed-below eq is (loaded d n r) u l
-
-    p : (map_page (load w.1 u.over) w.0 ≡ u.root) × (w.2 ≡ 0 + sum_children (unmarked K o u.over) u.root) × ((b : ℕ) → Off free r m 0 b → w.1 b ≡ d b) × Each (Sectors (Off free r m w.2) w.1 u.over) w.0
-    p = page-laid K free r m ready.distinct ready.apart o place d marked u.over (laid K free r m ready.distinct ready.apart o place d marked u.over) u.root d 0 (λ b h. refl) (omega (arith, c))
-
-    taken : w.2 ≡ m
-    taken = let y = p.1 in omega (arith, c)
-
-    keep : (b : ℕ) → Off free r m w.2 b → write w.1 r w.0 b ≡ w.1 b
-    keep b h = write-other w.1 r b w.0 h.1
-
-    t : load (write w.1 r w.0) (suc u.over) r ≡ u.root
-    t = rw (write_same w.1 r w.0)
-        (page-frames (load w.1 u.over) (load (write w.1 r w.0) u.over) (Sectors (Off free r m w.2) w.1 u.over)
-        (load-stays w.1 (write w.1 r w.0) (Off free r m w.2) (Off free r m w.2) (λ b h. h) keep u.over) w.0 p.3 ∙ p.0)
-
-pub delete-stores : {K : Type 0} (cmp : K → K → Cmp) → IsOrder K cmp → DeleteStores cmp
-delete-stores {K} cmp ord eq is free d n r k g ready =
-    replace-stores K eq is free d n r (delete cmp (loaded d n r) k).0 (delete-over cmp ord (loaded d n r) k) (subst (λ (z : ℕ). Ready free d n r z) (sym (delete-changes cmp ord eq is (loaded d n r) k g)) ready)

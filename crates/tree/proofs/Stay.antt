@@ -1,6 +1,6 @@
 -- What stands where: a place and the page there, and what stays when other sectors are written.
-use Rattle.std.proofs.Common.{◌≡◌, ℕ, zero, suc, Bool, true, false, cond, ◌||◌, ◌⊎◌, List, [], ◌∷◌, sym, refl, ◌∙◌, subst, inl, inr, arith}
-use Rattle.std.proofs.lemmas.Bool.{or_cases, or_left, or_right}
+use Rattle.std.proofs.Common.{◌≡◌, ℕ, zero, suc, Bool, true, false, cond, ◌||◌, ◌⊎◌, List, [], ◌∷◌, sym, refl, ◌∙◌, subst, inl, inr}
+use Rattle.std.proofs.lemmas.Bool.{or_cases, or_left, or_right, false≢true}
 use Rattle.tree.specs.Tree.{Item, item, Page, page, Sub, All, Child}
 use Rattle.tree.specs.Fresh.{IsSame, any_rest, any_child, same_sub, has}
 use Rattle.tree.specs.Stored.{Shown, map_rest, map_page, load, Each, Sectors, first_in, first_page, where_is, SomeRest, SomeKid, Stands}
@@ -18,31 +18,6 @@ module _ {K T : Type 0} (h : T → Bool) (g : ℕ → T) where
   pub some-any : (p : Page K ℕ) → SomeKid (λ c. h (g c) ≡ true) p → any_child h (map_page g p) ≡ true
   some-any (page c xs) (inl s) = or_left (h (g c)) (any_rest h (map_rest g xs)) s
   some-any (page c xs) (inr s) = or_right (h (g c)) (any_rest h (map_rest g xs)) (some-any-rest xs s)
-
-  any-some-rest : (xs : List (Item K ℕ)) → any_rest h (map_rest g xs) ≡ true → SomeRest (λ c. h (g c) ≡ true) xs
-  any-some-rest [] e = let z : ◌≡◌ {A = ℕ} 0 1 = cc in absurd (omega arith)
-  any-some-rest (item x d ∷ xs) e = go (any-some-rest xs) (or_cases (h (g d)) (any_rest h (map_rest g xs)) e)
-    where
-      go : (any_rest h (map_rest g xs) ≡ true → SomeRest (λ c. h (g c) ≡ true) xs) → (h (g d) ≡ true) ⊎ (any_rest h (map_rest g xs) ≡ true) → (h (g d) ≡ true) ⊎ SomeRest (λ c. h (g c) ≡ true) xs
-      go f (inl e) = inl e
-      go f (inr e) = inr (f e)
-
-  pub any_some : (p : Page K ℕ) → any_child h (map_page g p) ≡ true → SomeKid (λ c. h (g c) ≡ true) p
-  any_some (page c xs) e = go (or_cases (h (g c)) (any_rest h (map_rest g xs)) e)
-    where
-      go : (h (g c) ≡ true) ⊎ (any_rest h (map_rest g xs) ≡ true) → (h (g c) ≡ true) ⊎ SomeRest (λ c. h (g c) ≡ true) xs
-      go (inl e) = inl e
-      go (inr e) = inr (any-some-rest xs e)
-
-module _ {K : Type 0} (P : ℕ → ℕ → Type 0) (Q : ℕ → Type 0) where
-  pull-rest : (xs : List (Item K ℕ)) → SomeRest (λ c. (a : ℕ) × P c a × Q a) xs → (a : ℕ) × SomeRest (λ c. P c a) xs × Q a
-  pull-rest [] s = absurd s
-  pull-rest (item e d ∷ xs) (inl (a, p, q)) = (a, inl p, q)
-  pull-rest (item e d ∷ xs) (inr s) = let t = pull-rest xs s in (t.0, inr t.1, t.2)
-
-  pub pull : (p : Page K ℕ) → SomeKid (λ c. (a : ℕ) × P c a × Q a) p → (a : ℕ) × SomeKid (λ c. P c a) p × Q a
-  pull (page c xs) (inl (a, p, q)) = (a, inl p, q)
-  pull (page c xs) (inr s) = let t = pull-rest xs s in (t.0, inr t.1, t.2)
 
 module _ {K : Type 0} (P Q R : ℕ → Type 0) (f : (c : ℕ) → P c → Q c → R c) where
   zip-rest : (xs : List (Item K ℕ)) → All (Child P) xs → SomeRest Q xs → SomeRest R xs
@@ -94,48 +69,36 @@ module _ {K : Type 0} (eq : K → K → Bool) (is : IsSame K eq) (d : Shown K) w
       go : n ≡ j → (s : Sub K j) → same_sub eq n j (load d n b) s ≡ true → (n ≡ j) × (load d j b ≡ s)
       go q = subst (λ (z : ℕ). (s : Sub K z) → same_sub eq n z (load d n b) s ≡ true → (n ≡ z) × (load d z b ≡ s)) q (λ s e. (refl, sub-exact eq is n (load d n b) s e))
 
-  pub has-stands : (j : ℕ) (s : Sub K j) (n b : ℕ) → has eq n (load d n b) j s ≡ true → (a : ℕ) × Stands d n b j a × (load d j a ≡ s)
-  has-stands j s zero b e = let z : ◌≡◌ {A = ℕ} 0 1 = cc in absurd (omega arith)
-  has-stands j s (suc n) b e = go (λ c i. has-stands j s n c i) (or_cases (same_sub eq (suc n) j (load d (suc n) b) s) (any_child (λ c. has eq n c j s) (load d (suc n) b)) e)
-    where
-      go : ((c : ℕ) → has eq n (load d n c) j s ≡ true → (a : ℕ) × Stands d n c j a × (load d j a ≡ s)) →
-          (same_sub eq (suc n) j (load d (suc n) b) s ≡ true) ⊎ (any_child (λ c. has eq n c j s) (load d (suc n) b) ≡ true) → (a : ℕ) × Stands d (suc n) b j a × (load d j a ≡ s)
-      go f (inl e) = let p = same-stands j s (suc n) b e in (b, inl (p.0, refl), p.1)
-      go f (inr e) =
-          let t = pull (λ c a. Stands d n c j a) (λ a. load d j a ≡ s) (d b)
-          (kid-map (λ c. has eq n (load d n c) j s ≡ true) (λ c. (a : ℕ) × Stands d n c j a × (load d j a ≡ s)) f (d b) (any_some (λ c. has eq n c j s) (load d n) (d b) e)) in
-          (t.0, inr t.1, t.2)
-
   -- where a page is looked for it stands
-  first_rest : (j m : ℕ) (h : ℕ → Bool) (f : ℕ → ℕ) → ((b : ℕ) → h b ≡ true → Stands d m b j (f b)) → (c : ℕ) (xs : List (Item K ℕ)) → (g : Sub K m → Bool) → ((b : ℕ) → g (load d m b) ≡ h b) →
-      (g (load d m c) || any_rest g (map_rest (load d m) xs)) ≡ true → let a = first_in eq d h f c xs in Stands d m c j a ⊎ SomeRest (λ b. Stands d m b j a) xs
-  first_rest j m h f each c [] g same e = go (or_cases (g (load d m c)) false e)
+  first_rest : (j : ℕ) (s : Sub K j) (m : ℕ) (h : ℕ → Bool) (f : ℕ → ℕ) → ((b : ℕ) → h b ≡ true → Stands d m b j (f b) × (load d j (f b) ≡ s)) → (c : ℕ) (xs : List (Item K ℕ)) → (g : Sub K m → Bool) → ((b : ℕ) → g (load d m b) ≡ h b) →
+      (g (load d m c) || any_rest g (map_rest (load d m) xs)) ≡ true → let a = first_in eq d h f c xs in (Stands d m c j a ⊎ SomeRest (λ b. Stands d m b j a) xs) × (load d j a ≡ s)
+  first_rest j s m h f each c [] g same e = go (or_cases (g (load d m c)) false e)
     where
-      go : (g (load d m c) ≡ true) ⊎ (false ≡ true) → Stands d m c j (f c) ⊎ ⊥
-      go (inl e) = inl (each c (sym (same c) ∙ e))
-      go (inr e) = let z : ◌≡◌ {A = ℕ} 0 1 = cc in absurd (omega arith)
-  first_rest j m h f each c (item x b ∷ xs) g same e = go (h c) refl (first_rest j m h f each b xs g same)
+      go : (g (load d m c) ≡ true) ⊎ (false ≡ true) → (Stands d m c j (f c) ⊎ ⊥) × (load d j (f c) ≡ s)
+      go (inl e) = let t = each c (sym (same c) ∙ e) in (inl t.0, t.1)
+      go (inr e) = absurd (false≢true e)
+  first_rest j s m h f each c (item x b ∷ xs) g same e = go (h c) refl (first_rest j s m h f each b xs g same)
     where
       v : ℕ
       v = first_in eq d h f b xs
 
-      go : (o : Bool) → h c ≡ o → ((g (load d m b) || any_rest g (map_rest (load d m) xs)) ≡ true → Stands d m b j v ⊎ SomeRest (λ b. Stands d m b j v) xs) →
-          Stands d m c j (cond o (f c) v) ⊎ (Stands d m b j (cond o (f c) v) ⊎ SomeRest (λ b. Stands d m b j (cond o (f c) v)) xs)
-      go true q r = inl (each c q)
-      go false q r = inr (r (rw (same c ∙ q) at e))
+      go : (o : Bool) → h c ≡ o → ((g (load d m b) || any_rest g (map_rest (load d m) xs)) ≡ true → (Stands d m b j v ⊎ SomeRest (λ b. Stands d m b j v) xs) × (load d j v ≡ s)) →
+          (Stands d m c j (cond o (f c) v) ⊎ (Stands d m b j (cond o (f c) v) ⊎ SomeRest (λ b. Stands d m b j (cond o (f c) v)) xs)) × (load d j (cond o (f c) v) ≡ s)
+      go true q r = let t = each c q in (inl t.0, t.1)
+      go false q r = let t = r (rw (same c ∙ q) at e) in (inr t.0, t.1)
 
-  pub first-stands : (j : ℕ) (s : Sub K j) (m : ℕ) → ((b : ℕ) → has eq m (load d m b) j s ≡ true → Stands d m b j (where_is eq d m b j s)) → (p : Page K ℕ) → any_child (λ c. has eq m c j s) (map_page (load d m) p) ≡ true →
-      SomeKid (λ b. Stands d m b j (first_page eq d (λ b. has eq m (load d m b) j s) (λ b. where_is eq d m b j s) p)) p
-  first-stands j s m each (page c xs) e = first_rest j m (λ b. has eq m (load d m b) j s) (λ b. where_is eq d m b j s) each c xs (λ c. has eq m c j s) (λ b. refl) e
+  pub first-stands : (j : ℕ) (s : Sub K j) (m : ℕ) → ((b : ℕ) → has eq m (load d m b) j s ≡ true → let a = where_is eq d m b j s in Stands d m b j a × (load d j a ≡ s)) → (p : Page K ℕ) → any_child (λ c. has eq m c j s) (map_page (load d m) p) ≡ true →
+      let a = first_page eq d (λ b. has eq m (load d m b) j s) (λ b. where_is eq d m b j s) p in SomeKid (λ b. Stands d m b j a) p × (load d j a ≡ s)
+  first-stands j s m each (page c xs) e = first_rest j s m (λ b. has eq m (load d m b) j s) (λ b. where_is eq d m b j s) each c xs (λ c. has eq m c j s) (λ b. refl) e
 
-  pub where-stands : (j : ℕ) (s : Sub K j) (m a : ℕ) → has eq m (load d m a) j s ≡ true → Stands d m a j (where_is eq d m a j s)
-  where-stands j s zero a e = let z : ◌≡◌ {A = ℕ} 0 1 = cc in absurd (omega arith)
+  pub where-stands : (j : ℕ) (s : Sub K j) (m a : ℕ) → has eq m (load d m a) j s ≡ true → let b = where_is eq d m a j s in Stands d m a j b × (load d j b ≡ s)
+  where-stands j s zero a e = absurd (false≢true e)
   where-stands j s (suc m) a e = go (same_sub eq (suc m) j (load d (suc m) a) s) refl (first-stands j s m (λ b i. where-stands j s m b i) (d a)) e
     where
       v : ℕ
       v = first_page eq d (λ b. has eq m (load d m b) j s) (λ b. where_is eq d m b j s) (d a)
 
-      go : (o : Bool) → same_sub eq (suc m) j (load d (suc m) a) s ≡ o → (any_child (λ c. has eq m c j s) (map_page (load d m) (d a)) ≡ true → SomeKid (λ b. Stands d m b j v) (d a)) →
-          (o || any_child (λ c. has eq m c j s) (map_page (load d m) (d a))) ≡ true → ((suc m ≡ j) × (a ≡ cond o a v)) ⊎ SomeKid (λ b. Stands d m b j (cond o a v)) (d a)
-      go true q r e = inl (level-same eq is (suc m) j (load d (suc m) a) s q, refl)
-      go false q r e = inr (r e)
+      go : (o : Bool) → same_sub eq (suc m) j (load d (suc m) a) s ≡ o → (any_child (λ c. has eq m c j s) (map_page (load d m) (d a)) ≡ true → SomeKid (λ b. Stands d m b j v) (d a) × (load d j v ≡ s)) →
+          (o || any_child (λ c. has eq m c j s) (map_page (load d m) (d a))) ≡ true → (((suc m ≡ j) × (a ≡ cond o a v)) ⊎ SomeKid (λ b. Stands d m b j (cond o a v)) (d a)) × (load d j (cond o a v) ≡ s)
+      go true q r e = let p = same-stands j s (suc m) a q in (inl (p.0, refl), p.1)
+      go false q r e = let t = r e in (inr t.0, t.1)

@@ -1,12 +1,13 @@
 -- A stored tree: what stays when other sectors are written, search, and insert.
-use Rattle.std.proofs.Common.{◌≡◌, ℕ, zero, suc, ◌+◌, ◌<◌, ◌≤◌, Bool, true, false, cond, leb, List, [], ◌∷◌, ◌++◌, length, take, drop, sym, refl, ap, ◌∙◌, subst, ap₂, arith}
+use Rattle.std.proofs.Common.{◌≡◌, ℕ, zero, suc, ◌+◌, ◌<◌, ◌≤◌, Bool, true, false, cond, leb, List, [], ◌∷◌, ◌++◌, length, take, drop, sym, refl, ap, ◌∙◌, ap₂, arith}
 use Rattle.std.proofs.lemmas.List.{take-append-drop}
 use Rattle.std.proofs.lemmas.Bool.{eq-eqb, ne_eqb}
 use Rattle.numbers.specs.Order.{Cmp, below, same, above}
 use Rattle.tree.specs.Tree.{Entry, Item, item, Page, page, Sub, pick, Found, at, look_in, look_page, look, All, Child}
 use Rattle.tree.specs.Insert.{Up, one, two, tops, splice, before, halves, cut, fit, grow, ins_in, ins_page, ins}
-use Rattle.tree.specs.Stored.{Shown, map_rest, map_page, map_up, load, loaded, write, Each, Sectors, found, down, onward, step_in, step, seek, Off, store, store_root, Way, here, into, beyond, way_in, way, around, ins_stored, SeekLooks, InsertStores}
-use Rattle.tree.proofs.Lists.{all_left, all_right}
+use Rattle.tree.specs.Stored.{Shown, map_rest, map_page, map_up, load, loaded, write, Each, Sectors, found, down, onward, step_in, step, seek, Off, store, store_root, Way, here, into, beyond, way_in, way, around, ins_stored, SeekLooks}
+use Rattle.tree.proofs.Fill.{EachUp}
+use Rattle.tree.proofs.Lists.{all_left, all_right, child_map}
 
 -- SEARCH
 module _ {K T : Type 0} (cmp : K → K → Cmp) (g : ℕ → T) (f : ℕ → Found) (h : T → Found) (k : K) (agree : (a : ℕ) → f a ≡ h (g a)) where
@@ -38,12 +39,8 @@ module _ {K T : Type 0} (g g' : ℕ → T) (B : ℕ → Type 0) (agree : (a : �
   pub page-frames : (p : Page K ℕ) → Each B p → map_page g' p ≡ map_page g p
   page-frames (page c xs) h = ap₂ page (agree c h.0) (rest-frames xs h.1)
 
-child-map : {K : Type 0} (B C : ℕ → Type 0) (xs : List (Item K ℕ)) → ((a : ℕ) → B a → C a) → All (Child B) xs → All (Child C) xs
-child-map B C [] f h = tt
-child-map B C (item e d ∷ xs) f h = (f d h.0, child-map B C xs f h.1)
-
 pub page-map : {K : Type 0} (B C : ℕ → Type 0) → ((a : ℕ) → B a → C a) → (p : Page K ℕ) → Each B p → Each C p
-page-map B C f (page c xs) h = (f c h.0, child-map B C xs f h.1)
+page-map B C f (page c xs) h = (f c h.0, child_map B C f xs h.1)
 
 module _ {K : Type 0} (d d' : Shown K) (B C : ℕ → Type 0) (more : (b : ℕ) → B b → C b) (keep : (b : ℕ) → B b → d' b ≡ d b) where
   pub load-stays : (n a : ℕ) → Sectors B d n a → load d' n a ≡ load d n a
@@ -97,10 +94,6 @@ module _ {K S T : Type 0} (g : S → T) where
   tops-map (one p) = refl
   tops-map (two p e q) = refl
 
-abbrev pub EachUp : {K S : Type 0} → (S → Type 0) → Up K S → Type 0
-EachUp B (one a) = B a
-EachUp B (two a e b) = B a × B b
-
 module _ {K : Type 0} (B : ℕ → Type 0) where
   splice-each : (u : Up K ℕ) (xs : List (Item K ℕ)) → EachUp B u → All (Child B) xs → Each B (splice u xs)
   splice-each (one c) xs h a = (h, a)
@@ -152,7 +145,7 @@ module _ {K T : Type 0} (cmp : K → K → Cmp) (g : ℕ → T) (B : ℕ → Typ
 
   spliced : (c : ℕ) (xs : List (Item K ℕ)) → All (Child B) xs → Around c (λ u. splice u xs) (splice (f (g c)).0 (map_rest g xs))
   unfolding Around
-  spliced c xs a g' C same' up u i j = (splice-map g' u xs ∙ ap₂ splice i (rest-frames g g' B same' xs a), splice-each C u xs j (child-map B C xs up a))
+  spliced c xs a g' C same' up u i j = (splice-map g' u xs ∙ ap₂ splice i (rest-frames g g' B same' xs a), splice-each C u xs j (child_map B C up xs a))
 
   pub way_in-same : (c : ℕ) (xs : List (Item K ℕ)) → B c → All (Child B) xs → Same (way_in cmp x c xs) (ins_in cmp f x (g c) (map_rest g xs))
   way_in-same c [] h a = (refl, h, spliced c [] tt)
@@ -245,10 +238,10 @@ module _ (K : Type 0) (free : ℕ → ℕ) (r m : ℕ) (distinct : (i j : ℕ) �
         (o.tree ∙ sym (fit-map (load w.1 n) w.0) ∙ p.0, omega arith, λ b k. o.kept b (off-more i w.2 le b k) ∙ p.2 b k, o.under)
 
     -- the root goes to its own sector
-    abbrev Rooted : (n : ℕ) (d : Shown K) (i : ℕ) (u : Up K (Page K (Sub K n))) (s : ℕ × Shown K × ℕ) → ℕ → Type 0
+    abbrev pub Rooted : (n : ℕ) (d : Shown K) (i : ℕ) (u : Up K (Page K (Sub K n))) (s : ℕ × Shown K × ℕ) → ℕ → Type 0
     Rooted n d i u s k = (loaded s.1 s.0 r ≡ (grow n (u, k)).0) × (s.2 ≡ (grow n (u, k)).1) × ((b : ℕ) → B i b → s.1 b ≡ d b)
 
-    root-out : (n : ℕ) (d : Shown K) (i : ℕ) (u : Up K (Page K ℕ)) (k : ℕ) → k ≡ i + tops u → (grow n (map_up (map_page (load d n)) u, k)).1 ≤ m → EachUp (Each (Sectors (B i) d n)) u →
+    pub root-out : (n : ℕ) (d : Shown K) (i : ℕ) (u : Up K (Page K ℕ)) (k : ℕ) → k ≡ i + tops u → (grow n (map_up (map_page (load d n)) u, k)).1 ≤ m → EachUp (Each (Sectors (B i) d n)) u →
         Rooted n d i (map_up (map_page (load d n)) u) (store_root free d i r n u) k
     root-out n d i (one p) k e l h =
         let keep : (b : ℕ) → B i b → write d r p b ≡ d b = λ b o. write-other d r b p o.1 in
@@ -272,30 +265,3 @@ module _ (K : Type 0) (free : ℕ → ℕ) (r m : ℕ) (distinct : (i j : ℕ) �
 pub grow-bound : {K : Type 0} (n : ℕ) (u : Up K (Sub K (suc n))) (k : ℕ) → k ≤ (grow n (u, k)).1 + tops u
 grow-bound n (one p) k = omega arith
 grow-bound n (two p e q) k = omega arith
-
-pub insert-stores : {K : Type 0} (cmp : K → K → Cmp) → InsertStores cmp
-insert-stores {K} cmp free d n r k v ready = record { tree = out.0; taken = out.1; kept = λ b o. out.2 b (off-more K free r m ready.distinct ready.apart 0 w.2 (omega arith) b o) ∙ p.2 b o }
-  where
-    x : Entry K
-    x = (k, v)
-
-    u : Up K (Sub K (suc n)) × ℕ
-    u = ins_page cmp (ins cmp n x) x (map_page (load d n) (d r))
-
-    m : ℕ
-    m = (grow n (ins_page cmp (ins cmp n x) x (map_page (load d n) (d r)))).1
-
-    w : Page K ℕ × Shown K × ℕ
-    w = around (ins_stored cmp free n x d 0) d 0 (way cmp x (d r))
-
-    p : (fit (map_page (load w.1 n) w.0) ≡ u.0) × (w.2 + tops (fit w.0) ≡ 0 + u.1) × ((b : ℕ) → Off free r m 0 b → w.1 b ≡ d b) × Each (Sectors (Off free r m w.2) w.1 n) w.0 × (0 ≤ w.2)
-    p = let l = grow-bound n u.0 u.1 in page-out K free r m ready.distinct ready.apart cmp n x d 0 (λ a i s. ins-out K free r m ready.distinct ready.apart cmp n x d 0 a i s) (d r) (omega arith) ready.off
-
-    same' : map_up (map_page (load w.1 n)) (fit w.0) ≡ u.0
-    same' = sym (fit-map (load w.1 n) w.0) ∙ p.0
-
-    out : Rooted K free r m ready.distinct ready.apart cmp n w.1 w.2 u.0 (store_root free w.1 w.2 r n (fit w.0)) u.1
-    out =
-        let y = p.1 in
-        subst (λ (z : Up K (Page K (Sub K n))). Rooted K free r m ready.distinct ready.apart cmp n w.1 w.2 z (store_root free w.1 w.2 r n (fit w.0)) u.1) same'
-        (root-out K free r m ready.distinct ready.apart cmp n w.1 w.2 (fit w.0) u.1 (omega arith) (subst (λ (z : Up K (Page K (Sub K n))). (grow n (z, u.1)).1 ≤ m) (sym same') (omega arith)) (fit-each (Sectors (Off free r m w.2) w.1 n) w.0 p.3))

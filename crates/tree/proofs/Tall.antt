@@ -6,6 +6,7 @@ use Rattle.numbers.proofs.Ordered.{turnℕ, sameℕ, transℕ, lessℕ}
 use Rattle.tree.specs.Tree.{Entry, item, page, at, All, Child, flat_rest, flat, Under, Rises, FullPage, Full, Good, lookup}
 use Rattle.tree.specs.Fresh.{IsSame}
 use Rattle.tree.specs.Examples.{entry, span, spread, least, wide, brimming, sparse, Reached}
+use Rattle.tree.proofs.Lists.{not-found}
 use Rattle.tree.proofs.Changes.{insert-changes, delete-changes}
 
 -- NUMBERS AS NAMES
@@ -97,7 +98,7 @@ sparse-good = record {
 }
 
 not_there : lookup cmpℕ brimming 0 ≡ at 0 → ⊥
-not_there h = let z : ◌≡◌ {A = ℕ} 0 1 = cc in absurd (omega arith)
+not_there h = not-found 0 h
 
 pub reached : Reached
 reached = record {

@@ -1,10 +1,9 @@
 use Rattle.tree.proofs.stored_stands.Goals as goal
-use Rattle.tree.proofs.Stored.{seek-looks, insert-stores}
-use Rattle.tree.proofs.Shared.{replace-stores, delete-stores}
+use Rattle.tree.proofs.Stored.{seek-looks}
+use Rattle.tree.proofs.Replaced.{replace-stores, delete-stores, replace-frees, delete-frees}
 use Rattle.tree.proofs.Places.{good-apart}
 use Rattle.tree.proofs.Balance.{spots-stand}
-use Rattle.tree.proofs.Freed.{replace-frees, delete-frees}
-use Rattle.tree.proofs.FreedInsert.{insert-frees}
+use Rattle.tree.proofs.Inserted.{insert-stores, insert-frees}
 use Rattle.tree.proofs.FreedCount.{insert-balances, replace-balances, delete-balances}
 
 pub returns : goal.returns
