@@ -28,6 +28,7 @@ pub enum LayoutFault {
 
 impl LayoutFault {
     /// The number of the question that was answered with no.
+    // a number, since every call is to answer by one; within the program the refusal is the enum
     pub fn number(self) -> u8
         ensures { result ≡ layout_number self }
     {
@@ -69,6 +70,7 @@ pub enum VolumeFault {
 
 impl VolumeFault {
     /// The number of the question that was answered with no.
+    // a number, as above
     pub fn number(self) -> u8
         ensures { result ≡ volume_number self }
     {

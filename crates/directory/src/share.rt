@@ -17,7 +17,7 @@ const SHORT: usize = LEAST_ENTRIES - 1;
 const MOST_IN_LINE: usize = 2 * MOST_HELD + 1;
 
 // Two neighbours and the entry between them, which stands over the right page.
-#[derive(Clone, Drop)]
+#[derive(Clone, Debug, PartialEq, Eq, Drop)]
 pub struct Neighbours {
     pub left: Page,
     pub middle: Entry,

@@ -38,7 +38,7 @@ const FILE_AT: usize = NAME_SIZE;
 const BELOW_AT: usize = FILE_AT + WORD_SIZE;
 
 // An entry of a directory page: a name, the first sector of its file, and the page of the names above it and below the next entry; a leaf has none.
-#[derive(Clone, Copy, Debug, Default)]
+#[derive(Clone, Copy, Debug, Default, PartialEq, Eq)]
 pub struct Entry {
     pub name: Name,
     pub file: Sector,
@@ -46,7 +46,7 @@ pub struct Entry {
 }
 
 // An entry as it is stored, not asked yet.
-#[derive(Clone, Copy, Debug, Default)]
+#[derive(Clone, Copy, Debug, Default, PartialEq, Eq)]
 pub struct StoredEntry {
     pub name: Name,
     pub file: Address,
@@ -54,7 +54,7 @@ pub struct StoredEntry {
 }
 
 // The fields of a directory page before its entries: their number, and the address of the page of the names below them all.
-#[derive(Clone, Copy, Debug)]
+#[derive(Clone, Copy, Debug, PartialEq, Eq)]
 pub struct PageHead {
     pub count: u32,
     pub first: Address,

@@ -37,7 +37,7 @@ pub const MOST_TABLES: usize = 12;
 pub const NEAR_ADDRESSES: usize = NEAR_SECTORS as usize;
 
 // The part of a file's first sector that stands before the data.
-#[derive(Clone, Copy, Debug, Default)]
+#[derive(Clone, Copy, Debug, Default, PartialEq, Eq)]
 pub struct Header {
     pub name: Name,
     pub length: Length,

@@ -8,7 +8,7 @@ use std::marker::Model;
 pub const MOST_HELD: usize = MOST_ENTRIES + 1;
 
 // A directory page: the page of the names below its first entry, unless it is a leaf, and its entries.
-#[derive(Clone, Drop)]
+#[derive(Clone, Debug, PartialEq, Eq, Drop)]
 pub struct Page {
     pub first: Option<Sector>,
     pub entries: ArrayVec<Entry, MOST_HELD>,

@@ -12,7 +12,7 @@ use numbers::sector::Address;
 pub const TABLE_ADDRESSES: usize = TABLE_SECTORS as usize;
 
 // An extension table: the addresses of 256 file sectors. Past the end of the file they are left free.
-#[derive(Clone, Copy, Debug)]
+#[derive(Clone, Copy, Debug, PartialEq, Eq)]
 pub struct Table {
     pub sectors: [Address; TABLE_ADDRESSES],
 }

@@ -19,6 +19,7 @@ pub struct Name {
 fn is_letter(b: u8) -> bool
     ensures { result ≡ letter b }
 {
+    // matched as a char, here and below: a name is to be read off the ranges of its characters
     matches!(b as char, 'A'..='Z' | 'a'..='z')
 }
 

@@ -97,6 +97,7 @@ fn try_over(
 {
     let passes = setup.passes;
     let image = Image::new(bytes);
+    // a match: each pile is a type of its own, and a table of functions would have to make one and hand it out
     match setup.pile {
         Pile::Image => try_disk(image, steps, line),
         Pile::Hold => try_disk(Hold::new(image), steps, line),

@@ -59,6 +59,7 @@ fn names(step: &Step, k: usize) -> bool {
 }
 
 /// Adds what each sector shows that the plan names.
+// no Display: it asks the disk as it goes
 pub(crate) fn show_sectors<D: Disk>(
     disk: &mut D,
     steps: &[Step],
