@@ -5,10 +5,8 @@ use Rattle.numbers.specs.declared.name.Name.{Name}
 use Rattle.numbers.specs.declared.sector.Sector.{Sector}
 use Rattle.layout.specs.declared.entry.Entry.{Entry}
 use Rattle.layout.specs.Pages.{PageData}
-
--- the most entries that a page holds while it is edited
-abbrev pub most_held : ℕ
-most_held = 25
+-- the most entries that a page holds while it is edited: 25
+pub use Rattle.layout.specs.Entries.{most_held}
 
 -- one row more can be put in as row i
 abbrev pub HasRoom : List Entry → ℕ → Type 0

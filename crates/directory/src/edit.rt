@@ -13,7 +13,7 @@ use std::mem;
 pub fn insert(page: &mut Page, i: usize, entry: Entry) -> Result<(), Misfit>
     ensures { MatchResult result
         (λ _. HasRoom page.old.rows i × (page.new ≡ put_in page.old i entry))
-        (λ _. (page.new ≡ page.old) × ((most_held ≤ length page.old.rows) ⊎ (length page.old.rows < i))) }
+        (λ _. (page.new ≡ page.old) × ((length page.old.rows ≡ most_held) ⊎ (length page.old.rows < i))) }
 {
     if i > page.entries.len() {
         return Err(Misfit);

@@ -1,3 +1,4 @@
+ghost use Rattle.std.specs.Prelude.{◌≤◌, length};
 ghost use Rattle.layers.specs.Rows.{Tidy};
 
 use crate::kept::Kept;
@@ -14,5 +15,6 @@ pub struct Full;
 #[derive(Drop)]
 pub struct Table {
     rows: ArrayVec<Kept, 16>,
+    ghost small: { length rows.items ≤ 16 },
     ghost tidy: { Tidy rows.items },
 }

@@ -50,6 +50,10 @@ most_entries = 24
 abbrev pub least_entries : ℕ
 least_entries = 12
 
+-- the most entries that a page holds while it is edited
+abbrev pub most_held : ℕ
+most_held = 25
+
 -- the mark and the zeros are asked first
 abbrev pub head_in : Contents → Result PageHead PageFault
 head_in c =

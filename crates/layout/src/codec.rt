@@ -1,6 +1,6 @@
 // Directory pages: made, written to sectors and read from them.
 ghost use Rattle.std.specs.Prelude.{◌≡◌, ◌<◌, ◌≤◌, [], ◌∷◌, ◌++◌, length, codes, Some, Ok, Err, MatchOption, MatchResult, slice_index_or};
-ghost use Rattle.layout.specs.Entries.{most_entries, entries_at, all_entry_bytes};
+ghost use Rattle.layout.specs.Entries.{most_entries, most_held, entries_at, all_entry_bytes};
 ghost use Rattle.layout.specs.Words.{written};
 ghost use Rattle.layout.specs.Pages.{page_bytes, rows_in, page_in};
 
@@ -40,6 +40,24 @@ impl Page {
         }
     }
 
+    // The same page once more.
+    pub fn copied(&self) -> Page
+        ensures { result ≡ self.now }
+    {
+        Page {
+            first: self.first,
+            entries: ArrayVec::try_from(self.entries.as_slice()).unwrap(),
+        }
+    }
+
+    // The number of entries, 25 at most.
+    pub fn count(&self) -> usize
+        ensures value { result ≡ length self.now.rows }
+        ensures fits { length self.now.rows ≤ most_held }
+    {
+        self.entries.len()
+    }
+
     // Entry `i`.
     pub fn entry(&self, i: usize) -> Option<Entry>
         ensures { MatchOption result (length self.now.rows ≤ i) (λ e. (i < length self.now.rows) × (e ≡ slice_index_or self.now.rows i e)) }
@@ -51,7 +69,7 @@ impl Page {
     pub fn push(&mut self, entry: Entry) -> Result<(), PageFull>
         ensures { MatchResult result
             (λ _. (self.new.rows ≡ self.old.rows ++ entry ∷ []) × (self.new.first ≡ self.old.first))
-            (λ _. (self.new ≡ self.old) × (most_entries < length self.old.rows)) }
+            (λ _. (self.new ≡ self.old) × (length self.old.rows ≡ most_held)) }
     {
         self.entries.try_push(entry).map_err(|_| PageFull)
     }

@@ -20,12 +20,12 @@ pub enum LineFault {
     Memory,
 }
 
-/// What to tell whoever wrote the line.
-impl fmt::Display for LineFault {
-    ghost output = { λ f. Some (message_of f) };
-
-    fn fmt<W: fmt::Write>(&self, f: &mut fmt::Formatter<W>) -> fmt::Result {
-        f.write_str(match self {
+impl LineFault {
+    /// What to tell whoever wrote the line.
+    pub fn message(self) -> &'static str
+        ensures { result.now ≡ message_of self }
+    {
+        match self {
             LineFault::Word => "SIZE, PUT or SETTLE is expected",
             LineFault::Fields => "a field is missing, or there is one too many",
             LineFault::Number => "a number of 1 to 7 digits is expected",
@@ -35,7 +35,15 @@ impl fmt::Display for LineFault {
             LineFault::Sector => "the sector is not below SIZE",
             LineFault::Text => "a text has at most 1024 bytes, from space to tilde",
             LineFault::Memory => "there is no memory for the plan",
-        })
+        }
+    }
+}
+
+impl fmt::Display for LineFault {
+    ghost output = { λ f. Some (message_of f) };
+
+    fn fmt<W: fmt::Write>(&self, f: &mut fmt::Formatter<W>) -> fmt::Result {
+        f.write_str(self.message())
     }
 }
 
