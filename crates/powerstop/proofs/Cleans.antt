@@ -1,5 +1,6 @@
 -- Every pile over a blank image is one that a plan can start from.
-use Rattle.std.proofs.Common.{◌≡◌, ℕ, zero, suc, ◌+◌, ◌-◌, ◌*◌, ◌%◌, List, [], ◌∷◌, map, length, take, drop, replicate, sym, refl, ap, ◌∙◌, subst, inl, inr, arith}
+use Rattle.std.proofs.Common.{◌≡◌, ℕ, zero, suc, ◌+◌, ◌-◌, ◌*◌, ◌%◌, List, [], ◌∷◌, Ok, Err, Result, map, length, take, drop, replicate, sym, refl, ap, ◌∙◌, subst, inl, inr, arith}
+use Rattle.std.specs.Result.{IfOk}
 use Rattle.disk.specs.Meaning.{Contents, Meaning, In}
 use Rattle.disk.specs.Sectors.{sector, over}
 use Rattle.layers.specs.declared.fuse.FuseState.{FuseState}
@@ -10,6 +11,7 @@ use Rattle.layers.specs.Holding.{held}
 use Rattle.layers.specs.Rows.{at}
 use Rattle.plan.specs.Plans.{blank}
 use Rattle.powerstop.specs.Tries.{Clean}
+use Rattle.trial.specs.declared.stop.Report.{Report}
 
 zeros : ℕ → List ℕ
 zeros n = replicate n 0
@@ -73,3 +75,8 @@ clean-held m s is c = subst (λ l. Clean (held (at l) m)) (sym is) (record {
   fresh = record { live = c.fresh.live; settled = c.fresh.settled };
   blank = c.blank;
 })
+
+-- what holds of a report holds of a result that has one
+pub of-report : {D E : Type 0} (Is : D → Type 0) (Tells : D → Report → Type 0) (r : Result Report E) (d : D) → Is d → IfOk r (Tells d) → IfOk r (λ p. (d : D) × Is d × Tells d p)
+of-report Is Tells (Ok p) d i t = (d, i, t)
+of-report Is Tells (Err e) d i t = tt

@@ -1,5 +1,5 @@
-ghost use Rattle.std.specs.Prelude.{◌≡◌, length, replicate};
-ghost use Rattle.powerstop.specs.Tries.{Truthful, NothingWrong, NothingWrongFrom};
+ghost use Rattle.std.specs.Prelude.{◌≡◌, ◌*◌, length, replicate};
+ghost use Rattle.powerstop.specs.Tries.{Truthful, NothingWrong, NothingWrongFrom, Tried};
 
 use crate::report::{Stopped, show_sectors};
 use anyhow::Context;
@@ -93,7 +93,8 @@ fn try_over(
     steps: &[Step],
     line: &mut String,
 ) -> anyhow::Result<Report>
-    ensures { bytes.old ≡ replicate (length bytes.old) 0 → NothingWrong result }
+    ensures ran { Tried setup.passes bytes.old steps.now setup.pile result }
+    ensures clean { bytes.old ≡ replicate (length bytes.old) 0 → NothingWrong result }
 {
     let passes = setup.passes;
     let image = Image::new(bytes);
@@ -115,7 +116,8 @@ pub(crate) fn try_pile(
     steps: &[Step],
     line: &mut String,
 ) -> anyhow::Result<Report>
-    ensures { NothingWrong result }
+    ensures ran { Tried setup.passes (replicate (1024 * size) 0) steps.now setup.pile result }
+    ensures clean { NothingWrong result }
 {
     let length = size.checked_mul(1024).context("the disk is too large")?;
     let mut bytes = vec![in heap; 0u8; length]?;
