@@ -22,6 +22,7 @@ pub enum LineFault {
 
 impl LineFault {
     /// What to tell whoever wrote the line.
+    // kept beside Display, which writes it: the text itself is there for whoever has no writer, and cannot fail
     pub fn message(self) -> &'static str
         ensures { result.now ≡ message_of self }
     {
