@@ -49,6 +49,7 @@ impl fmt::Display for Pile {
 }
 
 /// A pile, and the number of puts that its fuse lets through, if it has one.
+// a number for each pile: one without a fuse ends its first run, and is tried no further
 #[derive(Clone, Copy)]
 pub(crate) struct Setup {
     pub(crate) pile: Pile,
@@ -74,6 +75,7 @@ fn try_disk<D: Disk + Drop>(
     ensures ran { Truthful D.Disk.meaning D.Disk.does disk steps.now result }
     ensures clean { NothingWrongFrom (D.Disk.meaning disk) result }
 {
+    // the disk's own fault goes, so that what is printed stays one line
     let report = power_stop(&mut disk, steps)
         .ok()
         .context("the disk is gone after the power stop")?;
