@@ -90,14 +90,11 @@ impl Neighbours {
         ensures { MatchOption result (uneven self.now ≡ false)
             (λ m. (uneven self.now ≡ true) × (m ≡ share (length self.now.left.rows) (length self.now.right.rows)) × (m ≤ most_held)) }
     {
-        let (left, right) = (self.left.entries.len(), self.right.entries.len());
-        if left == SHORT && right > LEAST_ENTRIES {
-            return Some(left + loan(right));
+        match (self.left.entries.len(), self.right.entries.len()) {
+            (SHORT, right) if right > LEAST_ENTRIES => Some(SHORT + loan(right)),
+            (left, SHORT) if left > LEAST_ENTRIES => Some(left - loan(left)),
+            _ => None,
         }
-        if right == SHORT && left > LEAST_ENTRIES {
-            return Some(left - loan(left));
-        }
-        None
     }
 
     /// Evens out the two, one left with 11 entries and the other with more than 12, through the entry between them, which stays over the right page.

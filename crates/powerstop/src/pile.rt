@@ -3,8 +3,8 @@ ghost use Rattle.powerstop.specs.Tries.{Truthful, NothingWrong, NothingWrongFrom
 
 use crate::report::{Stopped, show_sectors};
 use anyhow::Context;
-use disk::Disk;
 use disk::image::Image;
+use disk::{Disk, SECTOR_SIZE};
 use layers::fuse::Fuse;
 use layers::hold::Hold;
 use plan::step::Step;
@@ -121,7 +121,7 @@ pub(crate) fn try_pile(
     ensures ran { Tried setup.passes (replicate (1024 * size) 0) steps.now setup.pile result }
     ensures clean { NothingWrong result }
 {
-    let length = size.checked_mul(1024).context("the disk is too large")?;
+    let length = size.checked_mul(SECTOR_SIZE).context("the disk is too large")?;
     let mut bytes = vec![in heap; 0u8; length]?;
     write!(line, "{setup},")?;
     try_over(setup, &mut bytes, steps, line)
