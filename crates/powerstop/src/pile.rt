@@ -121,7 +121,9 @@ pub(crate) fn try_pile(
     ensures ran { Tried setup.passes (replicate (1024 * size) 0) steps.now setup.pile result }
     ensures clean { NothingWrong result }
 {
-    let length = size.checked_mul(SECTOR_SIZE).context("the disk is too large")?;
+    let length = size
+        .checked_mul(SECTOR_SIZE)
+        .context("the disk is too large")?;
     let mut bytes = vec![in heap; 0u8; length]?;
     write!(line, "{setup},")?;
     try_over(setup, &mut bytes, steps, line)
