@@ -28,7 +28,7 @@ pub enum LayoutFault {
 
 impl LayoutFault {
     /// The number of the question that was answered with no.
-    // a number, since every call is to answer by one; within the program the refusal is the enum
+    // a number, since the store's calls answer a refusal by its number; within the program it is the enum
     pub fn number(self) -> u8
         ensures { result ≡ layout_number self }
     {
@@ -70,7 +70,7 @@ pub enum VolumeFault {
 
 impl VolumeFault {
     /// The number of the question that was answered with no.
-    // a number, as above
+    // a number, since the store's calls answer a refusal by its number; within the program it is the enum
     pub fn number(self) -> u8
         ensures { result ≡ volume_number self }
     {

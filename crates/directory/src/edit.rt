@@ -1,4 +1,4 @@
-// Putting in, taking out and replacing an entry of a page.
+//! Putting in, taking out and replacing an entry of a page.
 ghost use Rattle.std.specs.Prelude.{◌≡◌, ◌<◌, ◌≤◌, ◌⊎◌, [], length, MatchOption, MatchResult};
 ghost use Rattle.directory.specs.Rows.{most_held, HasRoom, IsRow, IsLast, put_in, without, replaced};
 
@@ -9,7 +9,7 @@ use numbers::name::Name;
 use numbers::sector::Sector;
 use std::mem;
 
-// Puts an entry in as entry `i`, before the one that stood there.
+/// Puts an entry in as entry `i`, before the one that stood there.
 pub fn insert(page: &mut Page, i: usize, entry: Entry) -> Result<(), Misfit>
     ensures { MatchResult result
         (λ _. HasRoom page.old.rows i × (page.new ≡ put_in page.old i entry))
@@ -21,7 +21,7 @@ pub fn insert(page: &mut Page, i: usize, entry: Entry) -> Result<(), Misfit>
     page.entries.try_insert(i, entry).map_err(|_| Misfit)
 }
 
-// Takes entry `i` out.
+/// Takes entry `i` out.
 pub fn remove(page: &mut Page, i: usize) -> Option<Entry>
     ensures { MatchOption result
         ((page.new ≡ page.old) × (length page.old.rows ≤ i))
@@ -30,7 +30,7 @@ pub fn remove(page: &mut Page, i: usize) -> Option<Entry>
     page.entries.pop_at(i)
 }
 
-// Takes the largest entry out, which is the last one; none if the page has none.
+/// Takes the largest entry out, which is the last one; none if the page has none.
 pub fn take_largest(page: &mut Page) -> Option<Entry>
     ensures { MatchOption result
         ((page.new ≡ page.old) × (page.old.rows ≡ []))
@@ -39,7 +39,7 @@ pub fn take_largest(page: &mut Page) -> Option<Entry>
     page.entries.pop()
 }
 
-// Gives entry `i` another name and file, and keeps the page below it. The answer is the entry as it was.
+/// Gives entry `i` another name and file, and keeps the page below it. The answer is the entry as it was.
 pub fn replace(page: &mut Page, i: usize, name: Name, file: Sector) -> Option<Entry>
     ensures { MatchOption result
         ((page.new ≡ page.old) × (length page.old.rows ≤ i))

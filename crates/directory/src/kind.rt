@@ -1,10 +1,10 @@
-// The refusal of page editing.
+//! The refusal of page editing.
 ghost use Rattle.std.specs.Prelude.{codes, Some};
 
 use std::error::Error;
 use std::fmt;
 
-// The page or the two neighbours have not the entries that the edit asks for. Nothing was changed.
+/// The page or the two neighbours have not the entries that the edit asks for. Nothing was changed.
 #[derive(Clone, Copy, Debug, PartialEq, Eq)]
 pub struct Misfit;
 

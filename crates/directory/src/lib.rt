@@ -1,4 +1,4 @@
-// Editing the pages of the directory: finding a name, putting in and taking out entries, splitting a page, evening out two neighbours and joining them.
+//! Editing the pages of the directory: finding a name, putting in and taking out entries, splitting a page, evening out two neighbours and joining them.
 #![tactic(auto)]
 
 pub mod edit;

@@ -1,4 +1,4 @@
-// Where a name stands in a page.
+//! Where a name stands in a page.
 ghost use Rattle.std.specs.Prelude.{◌≡◌};
 ghost use Rattle.std.specs.List.{position};
 ghost use Rattle.directory.specs.Places.{Stands, reaches};
@@ -7,7 +7,8 @@ use layout::entry::Entry;
 use layout::page::Page;
 use numbers::name::Name;
 
-// The place of a name in a page whose names rise, as a binary search answers: it is that of entry `i`, or it is none's and `i` entries are below it.
+/// The place of a name in a page whose names rise: it is that of entry `i`, or it is none's and `i` entries are below it.
+// not `binary_search_by`, though it answers in the same words: what is promised holds of a page whose names do not rise too
 pub fn find(page: &Page, name: &Name) -> Result<usize, usize>
     ensures { Stands name.now.bytes page.now.rows result }
 {
@@ -19,7 +20,7 @@ pub fn find(page: &Page, name: &Name) -> Result<usize, usize>
     }
 }
 
-// The first entry that is not below the name.
+/// The first entry that is not below the name.
 fn first_reached(entries: &[Entry], name: &Name) -> Option<usize>
     ensures { result ≡ position (reaches name.now.bytes) entries.now }
 {

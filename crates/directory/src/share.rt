@@ -1,4 +1,4 @@
-// Splitting a page, evening out two neighbours through the entry between them, and joining them with it.
+//! Splitting a page, evening out two neighbours through the entry between them, and joining them with it.
 ghost use Rattle.std.specs.Prelude.{◌≡◌, ◌+◌, ◌<◌, ◌≤◌, true, false, length, Some, MatchOption, MatchResult};
 ghost use Rattle.layout.specs.Entries.{least_entries, most_entries};
 ghost use Rattle.directory.specs.Rows.{most_held};
@@ -10,13 +10,13 @@ use layout::entry::{Entry, LEAST_ENTRIES, MOST_ENTRIES};
 use layout::page::{MOST_HELD, Page};
 use numbers::sector::Sector;
 
-// A page left with so many entries turns to a neighbour.
+/// A page left with so many entries turns to a neighbour.
 const SHORT: usize = LEAST_ENTRIES - 1;
 
-// The most entries of two neighbours and the one between them.
+/// The most entries of two neighbours and the one between them.
 const MOST_IN_LINE: usize = 2 * MOST_HELD + 1;
 
-// Two neighbours and the entry between them, which stands over the right page.
+/// Two neighbours and the entry between them, which stands over the right page.
 #[derive(Clone, Debug, PartialEq, Eq, Drop)]
 pub struct Neighbours {
     pub left: Page,
@@ -24,7 +24,7 @@ pub struct Neighbours {
     pub right: Page,
 }
 
-// Cuts a line in two: the left page, below which `first` stands, has `kept` entries, the next one rises, and the right page has the others.
+/// Cuts a line in two: the left page, below which `first` stands, has `kept` entries, the next one rises, and the right page has the others.
 fn cut(first: Option<Sector>, all: &[Entry], kept: usize) -> Neighbours
     requires { (kept < length all.now) × (kept ≤ most_held) × (length all.now ≤ kept + 1 + most_held) }
     ensures { Cut kept first all.now result }
@@ -43,7 +43,7 @@ fn cut(first: Option<Sector>, all: &[Entry], kept: usize) -> Neighbours
     }
 }
 
-// Splits a page of 25 entries: it keeps 12, and the answer is the middle one, over the right page that is to stand at sector `at`, and the right page with the other 12.
+/// Splits a page of 25 entries: it keeps 12, and the answer is the middle one, over the right page that is to stand at sector `at`, and the right page with the other 12.
 pub fn split(page: &mut Page, at: Sector) -> Option<(Entry, Page)>
     ensures { MatchOption result
         ((page.new ≡ page.old) × (length page.old.rows < most_held))
@@ -61,7 +61,7 @@ pub fn split(page: &mut Page, at: Sector) -> Option<(Entry, Page)>
     Some((risen, halves.right))
 }
 
-// What a page of `count` entries lends to a neighbour left with 11: half of what it has beyond 11.
+/// What a page of `count` entries lends to a neighbour left with 11: half of what it has beyond 11.
 fn loan(count: usize) -> usize
     requires { least_entries < count }
     ensures { result ≡ lent count }
@@ -70,7 +70,7 @@ fn loan(count: usize) -> usize
 }
 
 impl Neighbours {
-    // The entries of both pages in a line: the entry between them comes down, over the first page below the right one.
+    /// The entries of both pages in a line: the entry between them comes down, over the first page below the right one.
     fn line(&self) -> ArrayVec<Entry, MOST_IN_LINE>
         ensures { result.items ≡ line self.now }
     {
@@ -85,22 +85,19 @@ impl Neighbours {
         all
     }
 
-    // How many entries the left page ends with, if one of the two is left with 11 entries and the other has more than 12.
+    /// How many entries the left page ends with, if one of the two is left with 11 entries and the other has more than 12.
     fn fair_share(&self) -> Option<usize>
         ensures { MatchOption result (uneven self.now ≡ false)
             (λ m. (uneven self.now ≡ true) × (m ≡ share (length self.now.left.rows) (length self.now.right.rows)) × (m ≤ most_held)) }
     {
-        let (left, right) = (self.left.entries.len(), self.right.entries.len());
-        if left == SHORT && right > LEAST_ENTRIES {
-            return Some(left + loan(right));
+        match (self.left.entries.len(), self.right.entries.len()) {
+            (SHORT, right) if right > LEAST_ENTRIES => Some(SHORT + loan(right)),
+            (left, SHORT) if left > LEAST_ENTRIES => Some(left - loan(left)),
+            _ => None,
         }
-        if right == SHORT && left > LEAST_ENTRIES {
-            return Some(left - loan(left));
-        }
-        None
     }
 
-    // Evens out the two, one left with 11 entries and the other with more than 12, through the entry between them, which stays over the right page.
+    /// Evens out the two, one left with 11 entries and the other with more than 12, through the entry between them, which stays over the right page.
     pub fn even_out(&mut self) -> Result<(), Misfit>
         ensures { MatchResult result
             (λ _. (uneven self.old ≡ true) × Shared (share (length self.old.left.rows) (length self.old.right.rows)) self.old self.new)
@@ -113,7 +110,7 @@ impl Neighbours {
         Ok(())
     }
 
-    // The left page with the entry between the two and all of the right one's behind its own, if they are 24 at most.
+    /// The left page with the entry between the two and all of the right one's behind its own, if they are 24 at most.
     pub fn join(&self) -> Result<Page, Misfit>
         ensures { MatchResult result
             (λ page. (length (line self.now) ≤ most_entries) × (page ≡ joined self.now))

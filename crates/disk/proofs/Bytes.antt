@@ -12,9 +12,7 @@ use Rattle.disk.specs.Sectors.{count, sector, written}
 pub bytes_low : (x : List ℕ) → ((i : ℕ) → get_or x i 0 < 256) → map (λ b. b % 256) x ≡ x
 bytes_low [] h = refl
 bytes_low (b ∷ x) h =
-    let e : b % 256 ≡ b = mod-eq_of_lt (h 0) in
-    let t = bytes_low x (λ i. h (suc i)) in
-    cc
+    cc (mod-eq_of_lt (h 0), bytes_low x (λ i. h (suc i)))
 
 low-bytes : (x : List ℕ) (i : ℕ) → get_or (map (λ b. b % 256) x) i 0 < 256
 low-bytes [] i = lit< tt
@@ -37,9 +35,6 @@ whole-sector bytes n h =
 pub sector-is : (bytes : List ℕ) (n : ℕ) → ((i : ℕ) → get_or bytes i 0 < 256) → take 1024 (drop (1024 * n) bytes) ≡ sector bytes n
 unfolding sector
 sector-is bytes n h = ap (λ l. take 1024 (drop (1024 * n) l)) (sym (bytes_low bytes h)) ∙ simp (drop-map, take-map) refl
-
-apart : (k n : ℕ) → (k ≡ n → ⊥) → (k < n) ⊎ (n < k)
-apart k n ne = grind arith
 
 -- a part of a slice that is written is a sector that is written
 pub written-part : (xs ys : List ℕ) (n m : ℕ) → m ≡ 1024 → put_mid (1024 * n) m xs ys ≡ written xs n ys
@@ -94,7 +89,7 @@ module _ (xs ys : List ℕ) (n : ℕ) (inside : n < count xs) (whole : Whole ys)
   above k h = ap (λ l. map (λ b. b % 256) (take 1024 l)) (after (1024 * k) (omega arith))
 
   pub written-others : (k : ℕ) → (k ≡ n → ⊥) → sector (written xs n ys) k ≡ sector xs k
-  written-others k ne = ⊎_elim (below k) (above k) (apart k n ne)
+  written-others k ne = ⊎_elim (below k) (above k) (let a : (k < n) ⊎ (n < k) = grind arith in a)
 
   -- what lies after the last whole sector
   pub written-tail : drop (1024 * count xs) (written xs n ys) ≡ drop (1024 * count xs) xs

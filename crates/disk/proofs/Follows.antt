@@ -1,5 +1,5 @@
 -- What follows from the rules for any disk.
-use Rattle.std.proofs.Common.{◌≡◌, ℕ, ◌<◌, ◌≤◌, false, Ok, Err, sym, refl, subst, arith}
+use Rattle.std.proofs.Common.{◌≡◌, ℕ, ◌<◌, ◌≤◌, false, Ok, Err, refl, subst, arith}
 use Rattle.std.proofs.lemmas.Bool.{both_ways}
 use Rattle.disk.specs.declared.fault.Cause.{Cause}
 use Rattle.disk.specs.declared.fault.Cause.TheVariants.{Outside, Gone}
@@ -10,10 +10,10 @@ use Rattle.disk.specs.Laws.{Says, Follows}
 
 beyond : (c : Cause) (m m' : Meaning) (n : ℕ) (f : DiskFault) → Refuses c m n f m' → m.size ≤ n → c ≡ Outside
 beyond Outside m m' n f h ge = refl
-beyond Gone m m' n f h ge = let lt = h.inside in absurd (omega arith)
+beyond Gone m m' n f h ge = absurd (omega arith)
 
 within : (c : Cause) (m m' : Meaning) (n : ℕ) (f : DiskFault) → Refuses c m n f m' → n < m.size → c ≡ Gone
-within Outside m m' n f h lt = let ge = h.beyond in absurd (omega arith)
+within Outside m m' n f h lt = absurd (omega arith)
 within Gone m m' n f h lt = refl
 
 stopped : (c : Cause) (m' : Meaning) → Stops c m' → c ≡ Gone
@@ -21,11 +21,11 @@ stopped Outside m' h = absurd h
 stopped Gone m' h = refl
 
 get-outside : (m m' : Meaning) (n : ℕ) (old new : Contents) (r : Answer) → GetAnswers m n old r m' new → m.size ≤ n → Says Outside r
-get-outside m m' n old new (Ok u) h ge = let lt = h.inside in absurd (omega arith)
+get-outside m m' n old new (Ok u) h ge = absurd (omega arith)
 get-outside m m' n old new (Err f) h ge = beyond f.cause m m' n f h.why ge
 
 put-outside : (m m' : Meaning) (n : ℕ) (x : Contents) (r : Answer) → PutAnswers m n x r m' → m.size ≤ n → Says Outside r
-put-outside m m' n x (Ok u) h ge = let lt = h.inside in absurd (omega arith)
+put-outside m m' n x (Ok u) h ge = absurd (omega arith)
 put-outside m m' n x (Err f) h ge = beyond f.cause m m' n f h ge
 
 get-gone : (m m' : Meaning) (n : ℕ) (old new : Contents) (r : Answer) → GetAnswers m n old r m' new → n < m.size → m.live ≡ false → Says Gone r
@@ -43,7 +43,7 @@ settle-gone m m' (Err f) h off = stopped f.cause m' h
 added-in : (m m' : Meaning) (n : ℕ) (x : Contents) → Puts m n x (Ok tt) m' → In x (m'.may n)
 added-in m m' n x p =
     let a = p.answer in
-    subst (λ y. In y (m'.may n)) a.shown (p.sound.shows a.live n (subst (λ z. n < z) (sym p.size) a.inside))
+    subst (λ y. In y (m'.may n)) a.shown (p.sound.shows a.live n (omega arith))
 
 pub follows : Follows
 follows = record {

@@ -8,7 +8,7 @@ use Rattle.disk.specs.Sectors.{count, sector, over, written, ImageDoes}
 use Rattle.disk.proofs.Bytes.{whole-sector, written-here, written-length, written-others, written-tail}
 
 -- the one member of a set
-only : {x y : Contents} → In x (y ∷ []) → x ≡ y
+pub only : {x y : Contents} → In x (y ∷ []) → x ≡ y
 only (inl e) = e
 only (inr h) = absurd h
 
@@ -56,31 +56,25 @@ module _ (bytes : List ℕ) (n : ℕ) (x : Contents) (inside : n < count bytes) 
   same_count : count (written bytes n x) ≡ count bytes
   same_count = ap (λ l. l / 1024) (written-length bytes x n inside whole)
 
-  put-over : Puts (over bytes) n x (Ok tt) (over (written bytes n x))
-  put-over = record {
-    answer = record { inside = inside; was = refl; live = refl; shown = written-here bytes x n inside whole };
-    size = same_count;
-    others = λ k lt ne. written-others bytes x n inside whole k ne;
-    adds = λ k y lt i.
-        ⊎_elim
-        (λ (e : k ≡ n). inr (e, only i ∙ (ap (sector (written bytes n x)) e ∙ written-here bytes x n inside whole), refl))
-        (λ ne. inl (inl (only i ∙ written-others bytes x n inside whole k ne)))
-        (cases_eq k n);
-    calm = record { stays = λ c. c; accepts = λ c due. refl };
-    sound = sound-over (written bytes n x);
-  }
-
-  put-does : ImageDoes bytes (putting n x) (Ok tt) (written bytes n x)
-  put-does = record {
-    answers = cond_below n (count bytes) _ _ inside;
-    leaves = cond_below n (count bytes) _ _ inside;
-    never_gone = tt;
-    tail = written-tail bytes x n inside whole;
-  }
-
   module _ {bytes' : List ℕ} (is : bytes' ≡ written bytes n x) where
     pub puts-over : Puts (over bytes) n x (Ok tt) (over bytes')
-    puts-over = subst (λ b. Puts (over bytes) n x (Ok tt) (over b)) (sym is) put-over
+    puts-over = rw is (record {
+      answer = record { inside = inside; was = refl; live = refl; shown = written-here bytes x n inside whole };
+      size = same_count;
+      others = λ k lt ne. written-others bytes x n inside whole k ne;
+      adds = λ k y lt i.
+          ⊎_elim
+          (λ (e : k ≡ n). inr (e, only i ∙ (ap (sector (written bytes n x)) e ∙ written-here bytes x n inside whole), refl))
+          (λ ne. inl (inl (only i ∙ written-others bytes x n inside whole k ne)))
+          (cases_eq k n);
+      calm = record { stays = λ c. c; accepts = λ c due. refl };
+      sound = sound-over (written bytes n x);
+    })
 
     pub does-put : ImageDoes bytes (putting n x) (Ok tt) bytes'
-    does-put = subst (ImageDoes bytes (putting n x) (Ok tt)) (sym is) put-does
+    does-put = rw is (record {
+      answers = cond_below n (count bytes) _ _ inside;
+      leaves = cond_below n (count bytes) _ _ inside;
+      never_gone = tt;
+      tail = written-tail bytes x n inside whole;
+    })

@@ -25,6 +25,7 @@ pub enum Cause {
 pub struct DiskFault {
     pub layer: Layer,
     pub cause: Cause,
+    // 0 and no Option where none was asked: a rule of the project, and what a report prints
     pub sector: usize,
 }
 

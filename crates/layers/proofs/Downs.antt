@@ -1,5 +1,5 @@
 -- What a hold does, over what the disk below it does.
-use Rattle.std.proofs.Common.{◌≡◌, ℕ, ◌<◌, List, [], length, IsErrAnd, None, Ok, Err, Result, OnOk, OnErr, sym, refl, ap, ◌∙◌, subst, arith}
+use Rattle.std.proofs.Common.{◌≡◌, ℕ, ◌<◌, List, [], length, IsErrAnd, None, Ok, Err, Result, OnOk, OnErr, refl, ap, ◌∙◌, arith}
 use Rattle.std.proofs.lemmas.Result.{err_from_is_err_and}
 use Rattle.disk.specs.declared.fault.Cause.TheVariants.{Gone}
 use Rattle.disk.specs.declared.fault.DiskFault.{DiskFault}
@@ -23,7 +23,7 @@ kept-with s (Err _) lt err ok = absurd (omega arith)
 
 pub follows-told : (r : Answer) (y : Kept) (s s' : List Kept) → LetsGo r → Without s y.sector s' → Follows r y s (Ok tt) s'
 follows-told (Ok _) y s s' h w = (refl, w)
-follows-told (Err f) y s s' h w = subst (λ c. Refused c f y s (Ok tt) s') (sym h) (refl, w)
+follows-told (Err f) y s s' h w = rw h (refl, w)
 
 pub refused-gone : (f : DiskFault) (y : Kept) (s : List Kept) → f.cause ≡ Gone → Refused f.cause f y s (Err f) s
-refused-gone f y s is = subst (λ c. Refused c f y s (Err f) s) (sym is) (refl, refl)
+refused-gone f y s is = rw is (refl, refl)

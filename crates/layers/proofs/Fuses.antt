@@ -1,5 +1,5 @@
 -- A fuse that counts hands a put on and counts it.
-use Rattle.std.proofs.Common.{◌≡◌, ℕ, false, Ok, Err, sym, refl, ap, subst}
+use Rattle.std.proofs.Common.{◌≡◌, ℕ, false, Ok, Err, refl, ap}
 use Rattle.std.proofs.lemmas.Bool.{both_ways}
 use Rattle.disk.specs.declared.fault.Cause.{Cause}
 use Rattle.disk.specs.declared.fault.Cause.TheVariants.{Outside, Gone}
@@ -30,4 +30,4 @@ module _ (m m' : Meaning) (n : ℕ) (x : Contents) (j k : ℕ) where
   }
 
 pub puts-counted : (m m' : Meaning) (n : ℕ) (x : Contents) (s : FuseState) (j k : ℕ) (r : Answer) → s ≡ Counting j → Puts m n x r m' → Puts (fused s m) n x r (fused (Counting k) m')
-puts-counted m m' n x s j k r is p = subst (λ t. Puts (fused t m) n x r (fused (Counting k) m')) (sym is) (counted m m' n x j k r p)
+puts-counted m m' n x s j k r is p = rw is (counted m m' n x j k r p)

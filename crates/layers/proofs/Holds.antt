@@ -22,16 +22,13 @@ in-below (Some y) x xs i = inr i
 in-below None x xs i = i
 
 in_kept : (o : Option Contents) (x : Contents) (xs : List Contents) → o ≡ Some x → In x (and_kept o xs)
-in_kept (Some y) x xs e = let g : x ≡ y = cc in inl g
-in_kept None x xs e = let z : ◌≡◌ {A = ℕ} 0 1 = cc in absurd (omega arith)
+in_kept (Some y) x xs e = inl cc
+in_kept None x xs e = cc
 
 in-cases : (o : Option Contents) (x : Contents) (xs : List Contents) → In x (and_kept o xs) → In x xs ⊎ (o ≡ Some x)
 in-cases (Some y) x xs (inl e) = inr (ap Some (sym e))
 in-cases (Some y) x xs (inr i) = inl i
 in-cases None x xs i = inl i
-
-some-none : {Y : Type 0} (o : Option Contents) {x : Contents} → o ≡ None → o ≡ Some x → Y
-some-none o e f = let z : ◌≡◌ {A = ℕ} 0 1 = cc in absurd (omega arith)
 
 -- more members below are more members of a hold
 wider : (o : Option Contents) (x : Contents) (xs ys : List Contents) → (In x xs → In x ys) → In x (and_kept o xs) → In x (and_kept o ys)
@@ -60,9 +57,8 @@ module _ (f g : Keeper) (m m' : Meaning) (s : ℕ) (x : Contents)
   spills-shows : (p : Puts m s x (Ok tt) m') (k : ℕ) → k < m.size → kept_or (g k) (m'.shown k) ≡ kept_or (f k) (m.shown k)
   spills-shows p k lt =
       ⊎_elim
-      (λ (e : k ≡ s). let a = ap f e ∙ has in let b = ap g e ∙ off in let c = ap m'.shown e ∙ p.answer.shown in
-      ap (λ o. kept_or o (m'.shown k)) b ∙ (c ∙ sym (ap (λ o. kept_or o (m.shown k)) a)))
-      (λ ne. ap (λ o. kept_or o (m'.shown k)) (same k ne) ∙ ap (kept_or (f k)) (p.others k lt ne))
+      (λ (e : k ≡ s). cc (p.answer.shown))
+      (λ ne. cc (same k ne, p.others k lt ne))
       (cases_eq k s)
 
   fewer-by : (adds : (k : ℕ) (y : Contents) → k < m.size → In y (m'.may k) → In y (m.may k) ⊎ ((k ≡ s) × (y ≡ x) × (m.live ≡ true)))
@@ -70,7 +66,7 @@ module _ (f g : Keeper) (m m' : Meaning) (s : ℕ) (x : Contents)
   fewer-by adds k y lt i =
       ⊎_elim
       (λ j. ⊎_elim (in-below (f k) y (m.may k)) (λ z. in_kept (f k) y (m.may k) (ap f z.0 ∙ (has ∙ ap Some (sym z.1)))) (adds k y lt j))
-      (λ e. ⊎_elim (λ (z : k ≡ s). some-none (g k) (ap g z ∙ off) e) (λ ne. in_kept (f k) y (m.may k) (sym (same k ne) ∙ e)) (cases_eq k s))
+      (λ e. ⊎_elim (λ (z : k ≡ s). cc) (λ ne. in_kept (f k) y (m.may k) (sym (same k ne) ∙ e)) (cases_eq k s))
       (in-cases (g k) y (m'.may k) i)
 
   spills-ok : Puts m s x (Ok tt) m' → Spills (held f m) (Ok tt) (held g m')
@@ -83,25 +79,19 @@ module _ (f g : Keeper) (m m' : Meaning) (s : ℕ) (x : Contents)
     sound = sound-held g m' w p.sound;
   }
 
-  let_go : (fault : DiskFault) → m.live ≡ true → Puts m s x (Err fault) m' → Refuses Outside m s fault m' → Spills (held f m) (Ok tt) (held g m')
-  let_go fault l p h =
-      let beyond = h.beyond in
-      let is = h.same in
+  pub spills-told : (r : Answer) → LetsGo r → m.live ≡ true → Puts m s x r m' → Spills (held f m) (Ok tt) (held g m')
+  spills-told (Ok _) h l p = spills-ok p
+  spills-told (Err fault) h l p =
+      let o = subst (λ c. Refuses c m s fault m') h p.answer in
+      let beyond = o.beyond in
       record {
-        answer = (l, ap (λ (n : Meaning). n.live) is ∙ l);
+        answer = (l, ap (λ (n : Meaning). n.live) o.same ∙ l);
         size = p.size;
-        shows = λ k lt. let ne : k ≡ s → ⊥ = λ e. omega arith in ap (λ o. kept_or o (m'.shown k)) (same k ne) ∙ ap (kept_or (f k)) (p.others k lt ne);
+        shows = λ k lt. let ne : k ≡ s → ⊥ = λ e. omega arith in cc (same k ne, p.others k lt ne);
         fewer = fewer-by p.adds;
         calm = record { stays = p.calm.stays; accepts = λ _ _. refl };
         sound = sound-held g m' w p.sound;
       }
-
-  spills-outside : (fault : DiskFault) → fault.cause ≡ Outside → m.live ≡ true → Puts m s x (Err fault) m' → Spills (held f m) (Ok tt) (held g m')
-  spills-outside fault is l p = let_go fault l p (subst (λ c. Refuses c m s fault m') is p.answer)
-
-  pub spills-told : (r : Answer) → LetsGo r → m.live ≡ true → Puts m s x r m' → Spills (held f m) (Ok tt) (held g m')
-  spills-told (Ok _) h l p = spills-ok p
-  spills-told (Err fault) h l p = spills-outside fault h l p
 
 -- the put of a row is gone, and it stays kept
 module _ (f : Keeper) (m m' : Meaning) (s : ℕ) (x : Contents) (has : f s ≡ Some x) (w : AllWhole f) where
@@ -113,7 +103,7 @@ module _ (f : Keeper) (m m' : Meaning) (s : ℕ) (x : Contents) (has : f s ≡ S
         size = p.size;
         shows = λ k lt.
             ⊎_elim
-            (λ (e : k ≡ s). let a = ap f e ∙ has in ap (λ o. kept_or o (m'.shown k)) a ∙ sym (ap (λ o. kept_or o (m.shown k)) a))
+            (λ (e : k ≡ s). cc)
             (λ ne. ap (kept_or (f k)) (p.others k lt ne))
             (cases_eq k s);
         fewer = λ k y lt i.
@@ -145,8 +135,8 @@ spills-more a b d r s p =
     record {
       answer = spills-answer a b d r s.answer.0 p.answer;
       size = p.size ∙ s.size;
-      shows = λ k lt. p.shows k (subst (λ n. k < n) (sym z) lt) ∙ s.shows k lt;
-      fewer = λ k x lt i. s.fewer k x lt (p.fewer k x (subst (λ n. k < n) (sym z) lt) i);
+      shows = λ k lt. p.shows k (omega arith) ∙ s.shows k lt;
+      fewer = λ k x lt i. s.fewer k x lt (p.fewer k x (omega arith) i);
       calm = record {
         stays = λ c. p.calm.stays (s.calm.stays c);
         accepts = λ c l. p.calm.accepts (s.calm.stays c) s.answer.1;
@@ -156,7 +146,7 @@ spills-more a b d r s p =
 
 -- a put is gone on the way, and a `?` hands that on
 pub spills-err : (a b d : Meaning) (r : Answer) (fault : DiskFault) → r ≡ Err fault → Spills a (Ok tt) b → Spills b (Err fault) d → Spills a r d
-spills-err a b d r fault is s p = subst (λ t. Spills a t d) (sym is) (spills-more a b d (Err fault) s p)
+spills-err a b d r fault is s p = rw is (spills-more a b d (Err fault) s p)
 
 -- PUT: sector n is kept as x
 pub puts-kept : (f g : Keeper) (m : Meaning) (n : ℕ) (x : Contents) → n < m.size → m.live ≡ true → Sound m → AllWhole g →
@@ -185,11 +175,11 @@ pub then-put : (a b d : Meaning) (n : ℕ) (x : Contents) → Spills a (Ok tt) b
 then-put a b d n x s p =
     let z = s.size in
     record {
-      answer = record { inside = subst (λ k. n < k) z p.answer.inside; was = s.answer.0; live = p.answer.live; shown = p.answer.shown };
+      answer = record { inside = omega (arith, p.answer.inside); was = s.answer.0; live = p.answer.live; shown = p.answer.shown };
       size = p.size ∙ s.size;
-      others = λ k lt ne. p.others k (subst (λ j. k < j) (sym z) lt) ne ∙ s.shows k lt;
+      others = λ k lt ne. p.others k (omega arith) ne ∙ s.shows k lt;
       adds = λ k y lt i.
-          ⊎_elim (λ j. inl (s.fewer k y lt j)) (λ j. inr (j.0, j.1, s.answer.0)) (p.adds k y (subst (λ j. k < j) (sym z) lt) i);
+          ⊎_elim (λ j. inl (s.fewer k y lt j)) (λ j. inr (j.0, j.1, s.answer.0)) (p.adds k y (omega arith) i);
       calm = record { stays = λ c. p.calm.stays (s.calm.stays c); accepts = λ c _. refl };
       sound = p.sound;
     }
@@ -197,16 +187,6 @@ then-put a b d n x s p =
 no-put-by : (c : Cause) (a b : Meaning) (n : ℕ) (fault : DiskFault) → n < a.size → Stops c b → Refuses c a n fault b
 no-put-by Outside a b n fault lt h = absurd h
 no-put-by Gone a b n fault lt h = record { inside = lt; lost = h }
-
-no-put : (a b : Meaning) (n : ℕ) (x : Contents) (fault : DiskFault) → n < a.size → Spills a (Err fault) b → Puts a n x (Err fault) b
-no-put a b n x fault lt s = record {
-  answer = no-put-by fault.cause a b n fault lt s.answer;
-  size = s.size;
-  others = λ k kt _. s.shows k kt;
-  adds = λ k y kt i. inl (s.fewer k y kt i);
-  calm = record { stays = s.calm.stays; accepts = λ c due. s.calm.accepts c due.0 };
-  sound = s.sound;
-}
 
 -- GET
 
@@ -246,24 +226,24 @@ gets-below f m m' n old mid new r w e is gm =
 
 module _ (f : Keeper) (none : (k : ℕ) → f k ≡ None) where
   whole-none : AllWhole f
-  whole-none k x e = some-none (f k) (none k) e
+  whole-none k x e = cc (none k)
 
   bare : (m : Meaning) (k : ℕ) → kept_or (f k) (m.shown k) ≡ m.shown k
   bare m k = ap (λ o. kept_or o (m.shown k)) (none k)
 
   under : (m : Meaning) (k : ℕ) (x : Contents) → In x (and_kept (f k) (m.may k)) → In x (m.may k)
-  under m k x i = ⊎_elim (λ j. j) (λ e. some-none (f k) (none k) e) (in-cases (f k) x (m.may k) i)
+  under m k x i = ⊎_elim (λ j. j) (λ e. cc (none k)) (in-cases (f k) x (m.may k) i)
 
   settled-none : (m : Meaning) → Settled m → Settled (held f m)
   settled-none m s k x lt i = s k x lt (under m k x i) ∙ sym (bare m k)
 
+  stop : (m : Meaning) (c : Cause) → Stops c m → Stops c (held f m)
+  stop m Outside e = e
+  stop m Gone e = e
+
   settle-answer : (a m m' : Meaning) (r : Answer) → a.live ≡ true → SettleAnswers m r m' → SettleAnswers a r (held f m')
   settle-answer a m m' (Ok _) l h = record { was = l; live = h.live; settled = settled-none m' h.settled }
-  settle-answer a m m' (Err fault) l h = stop fault.cause h
-    where
-      stop : (c : Cause) → Stops c m' → Stops c (held f m')
-      stop Outside e = e
-      stop Gone e = e
+  settle-answer a m m' (Err fault) l h = stop m' fault.cause h
 
   pub settles-below : (a m m' : Meaning) (r : Answer) → Spills a (Ok tt) (held f m) → Settles m r m' → Settles a r (held f m')
   settles-below a m m' r s p =
@@ -271,8 +251,8 @@ module _ (f : Keeper) (none : (k : ℕ) → f k ≡ None) where
       record {
         answer = settle-answer a m m' r s.answer.0 p.answer;
         size = p.size ∙ s.size;
-        shows = λ k lt. let kt = subst (λ j. k < j) (sym z) lt in bare m' k ∙ (p.shows k kt ∙ (sym (bare m k) ∙ s.shows k lt));
-        fewer = λ k x lt i. let kt = subst (λ j. k < j) (sym z) lt in s.fewer k x lt (in-below (f k) x (m.may k) (p.fewer k x kt (under m' k x i)));
+        shows = λ k lt. let kt : k < m.size = omega arith in bare m' k ∙ (p.shows k kt ∙ (sym (bare m k) ∙ s.shows k lt));
+        fewer = λ k x lt i. let kt : k < m.size = omega arith in s.fewer k x lt (in-below (f k) x (m.may k) (p.fewer k x kt (under m' k x i)));
         calm = record {
           stays = λ c. p.calm.stays (s.calm.stays c);
           accepts = λ c l. p.calm.accepts (s.calm.stays c) s.answer.1;
@@ -286,11 +266,7 @@ module _ (f : Keeper) (none : (k : ℕ) → f k ≡ None) where
     picks = λ k lt. subst (λ x. In x (and_kept (g k) (m.may k))) (sym (bare m' k)) (in-below (g k) (m'.shown k) (m.may k) (h.picks k lt));
     settled = settled-none m' h.settled;
   }
-  restart-answer g m m' (Err fault) z h = stop fault.cause h
-    where
-      stop : (c : Cause) → Stops c m' → Stops c (held f m')
-      stop Outside e = e
-      stop Gone e = e
+  restart-answer g m m' (Err fault) z h = stop m' fault.cause h
 
   pub restarts-below : (g : Keeper) (m m' : Meaning) (r : Answer) → Restarts m r m' → Restarts (held g m) r (held f m')
   restarts-below g m m' r p = record {
@@ -300,16 +276,6 @@ module _ (f : Keeper) (none : (k : ℕ) → f k ≡ None) where
     calm = record { stays = p.calm.stays; accepts = p.calm.accepts };
     sound = sound-held f m' whole-none p.sound;
   }
-
-no-settle : (a b : Meaning) (fault : DiskFault) → Spills a (Err fault) b → Settles a (Err fault) b
-no-settle a b fault s = record {
-  answer = s.answer;
-  size = s.size;
-  shows = s.shows;
-  fewer = s.fewer;
-  calm = record { stays = s.calm.stays; accepts = s.calm.accepts };
-  sound = s.sound;
-}
 
 -- what was kept stands in another table too
 pub spills-from : (f g : Keeper) (m b : Meaning) (r : Answer) → ((k : ℕ) → f k ≡ g k) → Spills (held f m) r b → Spills (held g m) r b
@@ -328,7 +294,21 @@ spills-from f g m b r is s = record {
 
 -- a `?` hands the fault on
 pub settles-err : (a b : Meaning) (r : Answer) (fault : DiskFault) → r ≡ Err fault → Spills a (Err fault) b → Settles a r b
-settles-err a b r fault is s = subst (λ t. Settles a t b) (sym is) (no-settle a b fault s)
+settles-err a b r fault is s = rw is (record {
+  answer = s.answer;
+  size = s.size;
+  shows = s.shows;
+  fewer = s.fewer;
+  calm = record { stays = s.calm.stays; accepts = s.calm.accepts };
+  sound = s.sound;
+})
 
 pub puts-err : (a b : Meaning) (n : ℕ) (x : Contents) (r : Answer) (fault : DiskFault) → r ≡ Err fault → n < a.size → Spills a (Err fault) b → Puts a n x r b
-puts-err a b n x r fault is lt s = subst (λ t. Puts a n x t b) (sym is) (no-put a b n x fault lt s)
+puts-err a b n x r fault is lt s = rw is (record {
+  answer = no-put-by fault.cause a b n fault lt s.answer;
+  size = s.size;
+  others = λ k kt _. s.shows k kt;
+  adds = λ k y kt i. inl (s.fewer k y kt i);
+  calm = record { stays = s.calm.stays; accepts = λ c due. s.calm.accepts c due.0 };
+  sound = s.sound;
+})

@@ -21,9 +21,6 @@ use Rattle.layers.proofs.Holds.{AllWhole, sound-held}
 abbrev pub is_of : ℕ → Kept → Bool
 is_of n k = eqb k.sector n
 
-pub none-some : {X Y : Type 0} {o : Option X} {x : X} → o ≡ None → o ≡ Some x → Y
-none-some e f = let z : ◌≡◌ {A = ℕ} 0 1 = cc in absurd (omega arith)
-
 module _ (s : List Kept) (n : ℕ) where
   -- the first row of a sector
   pub at-first : (i : ℕ) (d : Kept) → i < length s → (get_or s i d).sector ≡ n → ((k : ℕ) → k < i → is_of n (get_or s k d) ≡ false) → at s n ≡ Some (get_or s i d).bytes
@@ -59,7 +56,7 @@ module _ (s : List Kept) (n : ℕ) where
   whole t c e = from (slice_get s (position_or_len (is_of n) s)) refl (sym (ap (option_map (λ (k : Kept). k.bytes)) (find_at (is_of n) s)) ∙ e)
     where
       from : (o : Option Kept) → slice_get s (position_or_len (is_of n) s) ≡ o → option_map (λ (k : Kept). k.bytes) o ≡ Some c → Whole c
-      from None is f = none-some refl f
+      from None is f = cc
       from (Some y) is f =
           let lt = slice_get_within s _ y is in
           let same = get_or_from_slice_get s _ y y is in
@@ -80,7 +77,7 @@ appended s v n off ev = let a = find-append (is_of n) s (v ∷ []) in let b = eq
   where
     from : (o : Option Kept) → option_map (λ (k : Kept). k.bytes) o ≡ None → find (is_of n) (s ++ v ∷ []) ≡ option_or o (Some v) → at (s ++ v ∷ []) n ≡ Some v.bytes
     from None e f = ap (option_map (λ (k : Kept). k.bytes)) f
-    from (Some y) e f = none-some e refl
+    from (Some y) e f = cc
 
 -- one row for another of its sector
 module _ (s : List Kept) (n i : ℕ) (v : Kept) (e : position (is_of n) s ≡ Some i) (ev : v.sector ≡ n) where

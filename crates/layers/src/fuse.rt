@@ -6,7 +6,7 @@ use disk::fault::{DiskFault, Layer};
 use disk::{Disk, SectorBytes};
 
 /// How a fuse stands: it still lets so many puts pass, it has blown, or it lets all pass.
-// matched in each call, since what the states do differs from call to call: closures in its place would hide that
+// matched in each call: closures or a table for each state would only hide these few arms
 #[derive(Clone, Copy, PartialEq, Eq, Debug)]
 pub enum FuseState {
     Counting(usize),

@@ -11,7 +11,8 @@ mod methods;
 pub struct Full;
 
 /// Up to 16 kept sectors, each sector at most once.
-// A ghost field, and no `impl Model`: a hold that is asked for its size needs the fact, and calls no method of its table.
+// ghost fields, and no `impl Model`: `Hold::size` and `live` have to show that kept sectors are whole, and without a call of
+// the table only a ghost field tells them
 #[derive(Drop)]
 pub struct Table {
     rows: ArrayVec<Kept, 16>,

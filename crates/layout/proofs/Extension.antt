@@ -1,8 +1,8 @@
 -- Extension tables.
-use Rattle.std.proofs.Common.{◌≡◌, ℕ, ◌+◌, ◌-◌, ◌*◌, ◌/◌, ◌^◌, ◌<◌, ◌≤◌, ltb, List, [], ◌++◌, length, sym, refl, ap, ◌∙◌, subst, append-nil, arith}
+use Rattle.std.proofs.Common.{◌≡◌, ℕ, ◌+◌, ◌*◌, ◌^◌, ◌<◌, ◌≤◌, List, [], ◌++◌, length, sym, refl, ap, ◌∙◌, append-nil, arith}
 use Rattle.std.specs.List.{AllByRecursion}
 use Rattle.std.proofs.lemmas.List.{drop_all}
-use Rattle.std.proofs.lemmas.Bool.{cond-false, le-ltb}
+use Rattle.std.proofs.lemmas.Bool.Decides.{nat_tests}
 use Rattle.layout.specs.declared.table.Table.{Table}
 use Rattle.layout.specs.Words.{Contents, Bytes, sector_size, words, stored_all}
 use Rattle.numbers.specs.Lengths.{near_sectors, table_sectors, tables}
@@ -23,8 +23,7 @@ table-only c l b =
 
 table-places : (i a : ℕ) → near_sectors ≤ i → i ≤ a → (near_sectors + table_sectors * (table_place i).0 + (table_place i).1 ≡ i) × ((table_place i).1 < table_sectors) × ((table_place i).0 < tables a)
 table-places i a l h =
-    let e : tables a ≡ (a - near_sectors) / table_sectors + 1 = cond-false (ltb a near_sectors) 0 ((a - near_sectors) / table_sectors + 1) (le-ltb a near_sectors (omega arith)) in
-    (omega arith, omega arith, subst (λ (n : ℕ). (table_place i).0 < n) (sym e) (omega arith))
+    (omega arith, omega arith, grind (arith, nat_tests))
 
 pub extension-tables : ExtensionTables
 extension-tables = record { back = table-back; only = table-only; places = table-places }

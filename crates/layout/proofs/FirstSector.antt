@@ -1,12 +1,12 @@
 -- What holds of first sectors and extension tables as they are stored.
-use Rattle.std.proofs.Common.{◌≡◌, ℕ, ◌+◌, ◌^◌, ◌<◌, ◌≤◌, Bool, true, false, cond, eqb, List, ◌++◌, length, drop, Ok, Err, Result, sym, refl, ap, ◌∙◌, subst, ap₂, append_assoc, arith}
+use Rattle.std.proofs.Common.{◌≡◌, ℕ, ◌+◌, ◌^◌, ◌<◌, ◌≤◌, Bool, true, cond, eqb, List, ◌++◌, length, drop, Ok, Err, sym, refl, ap, ◌∙◌, subst, ap₂, append_assoc, arith}
 use Rattle.std.specs.List.{AllByRecursion}
 use Rattle.std.proofs.lemmas.List.{length-append, length-map}
+use Rattle.std.proofs.lemmas.Grind.{common_steps}
 use Rattle.std.proofs.lemmas.Bool.{eqb-true, eq-eqb, and_from}
 use Rattle.numbers.specs.declared.sector.Address.{Address}
 use Rattle.layout.specs.declared.header.Header.{Header}
-use Rattle.layout.specs.declared.header.HeaderFault.{HeaderFault}
-use Rattle.layout.specs.declared.header.HeaderFault.TheVariants.{Mark, End, Link}
+use Rattle.layout.specs.declared.header.HeaderFault.TheVariants.{Link}
 use Rattle.numbers.specs.Sectors.{address}
 use Rattle.layout.specs.Words.{Contents, Bytes, sector_size, word, words, stored, stored_all, part, written}
 use Rattle.numbers.specs.Names.{name_size}
@@ -14,15 +14,9 @@ use Rattle.numbers.specs.Lengths.{header_size, most_tables, near_sectors, longes
 use Rattle.layout.specs.Headers.{file_mark, mark_at, name_at, last_at, used_at, date_at, tables_at, near_at, numbers, addresses_in, header_bytes, fields_in, read_header, links_due, linked, header_in, IsHeader, FirstSectors}
 use Rattle.layout.proofs.Numbers.{word-past, word-stored, word-whole, word_fits}
 use Rattle.numbers.proofs.Sizes.{most, back, good, only, used}
-use Rattle.layout.proofs.Writing.{length-stored_all, words-whole, words-fit, length-words, part_at, part-whole, length_part}
-use Rattle.layout.proofs.Reading.{numbers-in, addresses-at}
+use Rattle.layout.proofs.Writing.{length-stored_all, words-whole, words-fit, part_at, part-whole, length_part}
+use Rattle.layout.proofs.Reading.{asked, length-addresses, numbers-in, addresses-at}
 use Rattle.layout.proofs.Heading.{header_read}
-
--- ADDRESSES AND NUMBERS
-pub length-addresses : (c : Contents) (i n : ℕ) → length (addresses_in c i n) ≡ n
-length-addresses c i n =
-    let f : ℕ → Address = λ w. record { 0 = w } in
-    length-map (words c i n) f ∙ length-words c i n
 
 -- THE BYTES OF A HEADER
 module _ (nm : List ℕ) (a b d : ℕ) (ts ss : List Address) (rest : List ℕ) where
@@ -85,22 +79,7 @@ module _ (nm : List ℕ) (a b d : ℕ) (ts ss : List Address) (rest : List ℕ) 
 -- WRITTEN, THEN READ
 length-header : (h : Header) → IsHeader h → length (header_bytes h) ≡ header_size
 length-header h i =
-    let t = stored_all (numbers h.tables) in
-    let s = stored_all (numbers h.sectors) in
-    let n = h.name.bytes in
-    let r = stored (last_sector h.length.0) ++ (stored (last_bytes h.length.0) ++ (stored h.date ++ (t ++ s))) in
-    omega (
-      arith,
-      length-append n r,
-      length-append t s,
-      length-stored_all (numbers h.tables),
-      length-stored_all (numbers h.sectors),
-      length-map h.tables (λ (a : Address). a.0),
-      length-map h.sectors (λ (a : Address). a.0),
-      i.name,
-      i.tables.0,
-      i.sectors.0,
-    )
+    grind (arith, common_steps, length-stored_all)
 
 read_back : (c : Contents) (h : Header) → IsHeader h → h.length.0 ≤ longest → read_header (written c 0 (header_bytes h)) ≡ Ok h
 read_back c h i l =
@@ -126,21 +105,12 @@ header-back own size c h i l d = ap (linked own size) (read_back c h i l) ∙ ap
 -- READ: WHAT STOOD THERE
 -- what an accepted header says
 read-says : (own size : ℕ) (c : Contents) (h : Header) → header_in own size c ≡ Ok h → (word c mark_at ≡ file_mark) × (good_end (word c last_at) (word c used_at) ≡ true) × (h ≡ fields_in c) × (links_due own size h ≡ true)
-read-says own size c h e = go (eqb (word c mark_at) file_mark) (good_end (word c last_at) (word c used_at)) (links_due own size (fields_in c)) refl refl refl e
-  where
-    go : (x y z : Bool) → eqb (word c mark_at) file_mark ≡ x → good_end (word c last_at) (word c used_at) ≡ y → links_due own size (fields_in c) ≡ z → linked own size (cond x (cond y (Ok (fields_in c)) (Err End)) (Err Mark)) ≡ Ok h → (word c mark_at ≡ file_mark) × (good_end (word c last_at) (word c used_at) ≡ true) × (h ≡ fields_in c) × (links_due own size h ≡ true)
-    go true true true p q r e =
-        let k : cond (links_due own size (fields_in c)) (Ok (fields_in c)) (Err Link) ≡ Ok (fields_in c) = ap (λ (b : Bool). cond b (Ok (fields_in c)) (Err Link)) r in
-        let f : fields_in c ≡ h = ok_same (sym k ∙ e) in
-        (eqb-true (word c mark_at) file_mark p, q, sym f, ap (links_due own size) (sym f) ∙ r)
-      where
-        ok_same : {x y : Header} → ◌≡◌ {A = Result Header HeaderFault} (Ok x) (Ok y) → x ≡ y
-        ok_same e = cc
-    go true true false p q r e =
-        let k : cond (links_due own size (fields_in c)) (Ok (fields_in c)) (Err Link) ≡ Err Link = ap (λ (b : Bool). cond b (Ok (fields_in c)) (Err Link)) r in
-        cc
-    go true false z p q r e = cc
-    go false y z p q r e = cc
+read-says own size c h e =
+    let a = asked (linked own size) _ _ _ refl e in
+    let b = asked (linked own size) _ _ _ refl a.1 in
+    let d = asked (λ r. r) _ _ _ refl b.1 in
+    let f : h ≡ fields_in c = cc (d.1) in
+    (eqb-true _ _ a.0, b.0, f, ap (links_due own size) f ∙ d.0)
 
 fields-typed : (c : Contents) → length c ≡ sector_size → Bytes c → IsHeader (fields_in c)
 fields-typed c l b =
@@ -152,40 +122,29 @@ fields-typed c l b =
     }
 
 -- the bytes of a sector, field by field
-fields-whole : (c : Contents) → length c ≡ sector_size → Bytes c → c ≡ stored (word c mark_at) ++ (part c name_at name_size ++ (stored (word c last_at) ++ (stored (word c used_at) ++ (stored (word c date_at) ++ (stored_all (words c tables_at most_tables) ++ (stored_all (words c near_at near_sectors) ++ drop header_size c))))))
-fields-whole c l b =
+fields-whole : (c : Contents) → length c ≡ sector_size → Bytes c → word c mark_at ≡ file_mark → c ≡ flat (part c name_at name_size) (word c last_at) (word c used_at) (word c date_at) (fields_in c).tables (fields_in c).sectors (drop header_size c)
+unfolding flat
+fields-whole c l b e =
+    let m = rw e at (word-whole c mark_at b (omega arith)) in
+    let n = part-whole c name_at name_size in
+    let a = word-whole c last_at b (omega arith) in
+    let u = word-whole c used_at b (omega arith) in
+    let d = word-whole c date_at b (omega arith) in
+    let t = words-whole c tables_at most_tables b (omega arith) in
     let s = words-whole c near_at near_sectors b (omega arith) in
-    let t = words-whole c tables_at most_tables b (omega arith) ∙ ap (λ (x : List ℕ). stored_all (words c tables_at most_tables) ++ x) s in
-    let d = word-whole c date_at b (omega arith) ∙ ap (λ (x : List ℕ). stored (word c date_at) ++ x) t in
-    let u = word-whole c used_at b (omega arith) ∙ ap (λ (x : List ℕ). stored (word c used_at) ++ x) d in
-    let a = word-whole c last_at b (omega arith) ∙ ap (λ (x : List ℕ). stored (word c last_at) ++ x) u in
-    let n = part-whole c name_at name_size ∙ ap (λ (x : List ℕ). part c name_at name_size ++ x) a in
-    word-whole c mark_at b (omega arith) ∙ ap (λ (x : List ℕ). stored (word c mark_at) ++ x) n
+    cc
 
 header-only : (own size : ℕ) (c : Contents) (h : Header) → length c ≡ sector_size → Bytes c → header_in own size c ≡ Ok h → IsHeader h × (h.length.0 ≤ longest) × (links_due own size h ≡ true) × (c ≡ written c 0 (header_bytes h))
 header-only own size c h l b e =
     let s = read-says own size c h e in
     let o = only (word c last_at) (word c used_at) s.1 in
+    let f = fields_in c in
     let i = fields-typed c l b in
-    let g : c ≡ written c 0 (header_bytes (fields_in c)) = whole s.0 o.1 o.2 i in
+    let k : header_size ≡ 0 + length (header_bytes f) = omega (arith, length-header f i) in
+    let g : c ≡ written c 0 (header_bytes f) =
+    fields-whole c l b s.0 ∙ ap₂ (λ (x y : ℕ). flat f.name.bytes x y f.date f.tables f.sectors (drop header_size c)) (sym o.1) (sym o.2)
+    ∙ sym (flat-is f.name.bytes (last_sector f.length.0) (last_bytes f.length.0) f.date f.tables f.sectors (drop header_size c)) ∙ ap (λ (j : ℕ). header_bytes f ++ drop j c) k in
     (subst IsHeader (sym s.2) i, subst (λ (x : Header). x.length.0 ≤ longest) (sym s.2) o.0, s.3, subst (λ (x : Header). c ≡ written c 0 (header_bytes x)) (sym s.2) g)
-  where
-    whole : word c mark_at ≡ file_mark → last_sector (length_of (word c last_at) (word c used_at)) ≡ word c last_at → last_bytes (length_of (word c last_at) (word c used_at)) ≡ word c used_at → IsHeader (fields_in c) → c ≡ written c 0 (header_bytes (fields_in c))
-    whole m p q i =
-        let f = fields_in c in
-        let n = f.name.bytes in
-        let j : header_size ≡ 0 + length (header_bytes f) = omega (arith, length-header f i) in
-        let k = ap (λ (j : ℕ). drop j c) j in
-        fields-whole c l b
-        ∙ ap (λ (w : ℕ). stored w ++ (n ++ (stored (word c last_at) ++ (stored (word c used_at) ++ (stored (word c date_at) ++ (stored_all (words c tables_at most_tables) ++ (stored_all (words c near_at near_sectors) ++ drop header_size c))))))) m
-        ∙ ap₂ (λ (x y : ℕ). stored file_mark ++ (n ++ (stored x ++ (stored y ++ (stored (word c date_at) ++ (stored_all (words c tables_at most_tables) ++ (stored_all (words c near_at near_sectors) ++ drop header_size c))))))) (sym p) (sym q)
-        ∙ ap₂ (λ (x y : List ℕ). stored file_mark ++ (n ++ (stored (last_sector f.length.0) ++ (stored (last_bytes f.length.0) ++ (stored f.date ++ (stored_all x ++ (stored_all y ++ drop header_size c)))))))
-        (sym (numbers-in (words c tables_at most_tables))) (sym (numbers-in (words c near_at near_sectors)))
-        ∙ sym (regroup (stored file_mark) n (stored (last_sector f.length.0)) (stored (last_bytes f.length.0)) (stored f.date) (stored_all (numbers f.tables)) (stored_all (numbers f.sectors)) (drop header_size c))
-        ∙ ap (λ (x : List ℕ). header_bytes f ++ x) k
-      where
-        regroup : (p q r s t u v w : List ℕ) → (p ++ (q ++ (r ++ (s ++ (t ++ (u ++ v)))))) ++ w ≡ p ++ (q ++ (r ++ (s ++ (t ++ (u ++ (v ++ w))))))
-        regroup p q r s t u v w = simp append_assoc
 
 pub first-sectors : FirstSectors
 first-sectors =

@@ -11,7 +11,7 @@ use Rattle.layout.specs.Words.{Contents, word_size, word, stored, stored_all, pa
 use Rattle.numbers.specs.Names.{name_size}
 use Rattle.numbers.specs.Lengths.{most_tables, near_sectors, length_of, good_end, last_sector, tables}
 use Rattle.layout.specs.Headers.{file_mark, mark_at, name_at, last_at, used_at, date_at, tables_at, near_at, numbers, addresses_in, fields_in, read_header, links_due}
-use Rattle.layout.proofs.Writing.{written-more, length-stored_all, stored_all-push}
+use Rattle.layout.proofs.Writing.{next, length-stored_all, stored_all-push}
 
 -- ADDRESSES, ONE MORE
 pub put-one-more : (c s : Contents) (at i v : ℕ) (list : List Address) (d : Address) → at + word_size * length list ≤ length c → i < length list → v ≡ (get_or list i d).0 → s ≡ written c at (stored_all (numbers (take i list))) → written s (at + 4 * i) (stored v) ≡ written c at (stored_all (numbers (take (i + 1) list)))
@@ -19,13 +19,10 @@ put-one-more c s at i v list d h l e inv =
     let ws = numbers (take i list) in
     let n : length ws ≡ i = length-map (take i list) (λ (a : Address). a.0) ∙ length-take-le i list (omega arith) in
     let k : at + length (stored_all ws) ≡ at + 4 * i = omega (arith, length-stored_all ws) in
-    ap (λ (t : Contents). written t (at + 4 * i) (stored v)) inv ∙ written-more c at (at + 4 * i) (stored_all ws) (stored v) k (omega arith)
+    next c s _ at (at + 4 * i) (stored_all ws) (stored v) inv refl k (omega arith)
     ∙ ap (written c at) (sym (stored_all-push ws v) ∙ ap stored_all (ap (λ (w : ℕ). ws ++ w ∷ []) e ∙ sym (map_more (λ (a : Address). a.0) list i d l)))
 
 -- FIELDS, ONE AFTER ANOTHER
-pub next : (c s t : Contents) (xs ys : List ℕ) (n : ℕ) → s ≡ written c 0 xs → t ≡ written s n ys → length xs ≡ n → t ≡ written c 0 (xs ++ ys)
-next c s t xs ys n e f l = f ∙ ap (λ (x : Contents). written x n ys) e ∙ written-more c 0 n xs ys (omega arith) (omega arith)
-
 pub header-written : (c s1 s2 s3 s4 s5 s6 s7 : Contents) (nm : List ℕ) (a b d : ℕ) (ts ss : List ℕ) → length nm ≡ name_size → length ts ≡ most_tables → s1 ≡ written c 0 (stored file_mark) → s2 ≡ written s1 4 nm → s3 ≡ written s2 36 (stored a) → s4 ≡ written s3 40 (stored b) → s5 ≡ written s4 44 (stored d) → s6 ≡ written s5 48 (stored_all ts) → s7 ≡ written s6 96 (stored_all ss) → s7 ≡ written c 0 (stored file_mark ++ (nm ++ (stored a ++ (stored b ++ (stored d ++ (stored_all ts ++ stored_all ss))))))
 header-written c s1 s2 s3 s4 s5 s6 s7 nm a b d ts ss ln lt e1 e2 e3 e4 e5 e6 e7 =
     let x2 = stored file_mark ++ nm in
@@ -33,21 +30,19 @@ header-written c s1 s2 s3 s4 s5 s6 s7 nm a b d ts ss ln lt e1 e2 e3 e4 e5 e6 e7 
     let x4 = x3 ++ stored b in
     let x5 = x4 ++ stored d in
     let x6 = x5 ++ stored_all ts in
-    let l2 : length x2 ≡ 36 = omega arith in
-    let l3 : length x3 ≡ 40 = length-append x2 (stored a) ∙ omega arith in
-    let l4 : length x4 ≡ 44 = length-append x3 (stored b) ∙ omega arith in
-    let l5 : length x5 ≡ 48 = length-append x4 (stored d) ∙ omega arith in
-    let l6 : length x6 ≡ 96 = length-append x5 (stored_all ts) ∙ omega (arith, length-stored_all ts) in
-    let f2 = next c s1 s2 (stored file_mark) nm 4 e1 e2 refl in
-    let f3 = next c s2 s3 x2 (stored a) 36 f2 e3 l2 in
-    let f4 = next c s3 s4 x3 (stored b) 40 f3 e4 l3 in
-    let f5 = next c s4 s5 x4 (stored d) 44 f4 e5 l4 in
-    let f6 = next c s5 s6 x5 (stored_all ts) 48 f5 e6 l5 in
-    let f7 = next c s6 s7 x6 (stored_all ss) 96 f6 e7 l6 in
-    f7 ∙ ap (written c 0) (regroup (stored file_mark) nm (stored a) (stored b) (stored d) (stored_all ts) (stored_all ss))
-  where
-    regroup : (p q r s t u v : List ℕ) → (((((p ++ q) ++ r) ++ s) ++ t) ++ u) ++ v ≡ p ++ (q ++ (r ++ (s ++ (t ++ (u ++ v)))))
-    regroup p q r s t u v = simp append_assoc
+    let l2 : 0 + length x2 ≡ 36 = omega arith in
+    let l3 : 0 + length x3 ≡ 40 = omega (arith, length-append x2 (stored a)) in
+    let l4 : 0 + length x4 ≡ 44 = omega (arith, length-append x3 (stored b)) in
+    let l5 : 0 + length x5 ≡ 48 = omega (arith, length-append x4 (stored d)) in
+    let l6 : 0 + length x6 ≡ 96 = omega (arith, length-append x5 (stored_all ts), length-stored_all ts) in
+    let f2 = next c s1 s2 0 4 (stored file_mark) nm e1 e2 refl (omega arith) in
+    let f3 = next c s2 s3 0 36 x2 (stored a) f2 e3 l2 (omega arith) in
+    let f4 = next c s3 s4 0 40 x3 (stored b) f3 e4 l3 (omega arith) in
+    let f5 = next c s4 s5 0 44 x4 (stored d) f4 e5 l4 (omega arith) in
+    let f6 = next c s5 s6 0 48 x5 (stored_all ts) f5 e6 l5 (omega arith) in
+    let f7 = next c s6 s7 0 96 x6 (stored_all ss) f6 e7 l6 (omega arith) in
+    let g : x6 ++ stored_all ss ≡ stored file_mark ++ (nm ++ (stored a ++ (stored b ++ (stored d ++ (stored_all ts ++ stored_all ss))))) = simp append_assoc in
+    f7 ∙ ap (written c 0) g
 
 -- READING
 pub header_read : (c : Contents) (h : Header) → word c mark_at ≡ file_mark → good_end (word c last_at) (word c used_at) ≡ true → h.name.bytes ≡ part c name_at name_size → h.length.0 ≡ length_of (word c last_at) (word c used_at) → h.date ≡ word c date_at → h.tables ≡ addresses_in c tables_at most_tables → h.sectors ≡ addresses_in c near_at near_sectors → Ok h ≡ read_header c

@@ -3,15 +3,15 @@ use Rattle.std.proofs.Common.{◌≡◌, ℕ, ◌+◌, ◌-◌, ◌^◌, ◌<◌
 use Rattle.std.proofs.lemmas.Bool.{ltb-true, ltb-false}
 use Rattle.std.proofs.lemmas.List.{get_or-append_right, get_or_append_left, get_or-take, get_or-drop, get_or_past, length-take-le, length-drop, take_at, drop_at, drop-drop, take-append-drop}
 use Rattle.std.proofs.lemmas.Nat.{from_le_bytes-to_le_bytes_4, le_bytes_4}
+use Rattle.std.proofs.lemmas.Grind.{common_steps}
 use Rattle.std.proofs.ByRecursion.{All-get_or}
 use Rattle.layout.specs.Words.{Contents, Bytes, word_size, word, stored, part, written, StoredNumbers}
 
 -- a number past n bytes
 pub word-past : (p q : Contents) (n i : ℕ) → length p ≡ n → word (p ++ q) (n + i) ≡ word q i
 word-past p q n i e =
-    let at : (k : ℕ) → get_or (p ++ q) (n + i + k) 0 ≡ get_or q (i + k) 0 = λ k. get_or-append_right p q n (n + i + k) 0 e (omega arith) ∙ ap (λ (j : ℕ). get_or q j 0) (omega arith) in
-    let h : get_or (p ++ q) (n + i) 0 ≡ get_or q i 0 = get_or-append_right p q n (n + i) 0 e (omega arith) ∙ ap (λ (j : ℕ). get_or q j 0) (omega arith) in
-    rw (h, at 1, at 2, at 3)
+    let at : (k j : ℕ) → k ≡ n + j → get_or (p ++ q) k 0 ≡ get_or q j 0 = λ k j f. grind (arith, common_steps) in
+    rw (at (n + i) i refl, at (n + i + 1) (i + 1) (omega arith), at (n + i + 2) (i + 2) (omega arith), at (n + i + 3) (i + 3) (omega arith))
 
 pub word-stored : (v : ℕ) (q : Contents) → v < 2 ^ 32 → word (stored v ++ q) 0 ≡ v
 word-stored v q h = omega (arith, from_le_bytes-to_le_bytes_4 v h)
@@ -23,8 +23,7 @@ pub back : (c : Contents) (i v : ℕ) → i + word_size ≤ length c → v < 2 ^
 back c i v h f = word_at (take i c) (drop (i + word_size) c) i v (length-take-le i c (omega arith)) f
 
 pub others : (c : Contents) (i v k : ℕ) → i + word_size ≤ length c → (k < i) ⊎ (i + word_size ≤ k) → get_or (written c i (stored v)) k 0 ≡ get_or c k 0
-others c i v k h (inl l) =
-    get_or_append_left (take i c) (stored v ++ drop (i + word_size) c) 0 k (omega (arith, length-take-le i c (omega arith))) ∙ get_or-take i c k 0 l
+others c i v k h (inl l) = grind (arith, get_or_append_left {A = ℕ}, get_or-take {A = ℕ}, length-take-le {A = ℕ})
 others c i v k h (inr l) =
     let rest = drop (i + word_size) c in
     get_or-append_right (take i c) (stored v ++ rest) i k 0 (length-take-le i c (omega arith)) (omega arith)
@@ -42,7 +41,7 @@ pub length_part : (c : Contents) (i n : ℕ) → i + n ≤ length c → length (
 length_part c i n h = length-take-le n (drop i c) (omega (arith, length-drop i c))
 
 pub get_or-part : (c : Contents) (i n k : ℕ) → k < n → get_or (part c i n) k 0 ≡ get_or c (i + k) 0
-get_or-part c i n k h = get_or-take n (drop i c) k 0 h ∙ get_or-drop i c k 0
+get_or-part c i n k h = grind (arith, common_steps)
 
 -- A NUMBER'S BYTES
 pub word_fits : (c : Contents) (i : ℕ) → Bytes c → i + word_size ≤ length c → word c i < 2 ^ 32

@@ -1,47 +1,32 @@
 -- What holds of directory pages as they are stored.
-use Rattle.std.proofs.Common.{◌≡◌, ℕ, zero, suc, ◌+◌, ◌-◌, ◌*◌, ◌/◌, ◌^◌, ◌<◌, ◌≤◌, Bool, true, false, cond, not, ◌&&◌, eqb, leb, List, [], ◌∷◌, ◌++◌, length, drop, replicate, Some, None, Ok, Err, Option, Result, sym, refl, ap, ◌∙◌, subst, ap₂, append_assoc, arith}
+use Rattle.std.proofs.Common.{◌≡◌, ℕ, zero, suc, ◌+◌, ◌-◌, ◌*◌, ◌/◌, ◌^◌, ◌<◌, ◌≤◌, Bool, true, false, cond, not, eqb, List, [], ◌∷◌, ◌++◌, length, drop, replicate, Some, None, Ok, Err, Option, Result, sym, refl, ap, ◌∙◌, subst, ap₂, append_assoc, arith}
 use Rattle.std.specs.List.{AllByRecursion}
 use Rattle.std.proofs.lemmas.List.{length-append}
-use Rattle.std.proofs.lemmas.Bool.{and_parts, and_from, eqb-true, ne_eqb, leb-true}
+use Rattle.std.proofs.lemmas.Bool.{and_parts, and_from, eqb-true, ne_eqb}
+use Rattle.std.proofs.lemmas.Bool.Decides.{nat_tests}
 use Rattle.numbers.specs.declared.sector.Sector.{Sector}
 use Rattle.layout.specs.declared.entry.Entry.{Entry}
 use Rattle.layout.specs.declared.entry.StoredEntry.{StoredEntry}
 use Rattle.layout.specs.declared.entry.PageKind.{PageKind}
 use Rattle.layout.specs.declared.entry.PageFault.{PageFault}
-use Rattle.layout.specs.declared.entry.PageFault.TheVariants.{Mark, BadName, BadLink}
 use Rattle.layout.specs.Words.{Contents, Bytes, sector_size, word_size, blank, word, stored, part, written}
 use Rattle.numbers.specs.Sectors.{address_step, address, leads, sector_at, as_due}
 use Rattle.numbers.specs.Names.{name_size, every, name_in, is_name_field}
-use Rattle.layout.specs.Entries.{page_mark, page_mark_at, count_at, first_at, zeros_at, entries_at, entry_size, file_at, below_at, most_entries, head_in, least_of, count_fits, count_fault, entry_at, stored_in, entry_of, check_entry, link_address, stored_form, entry_bytes, all_entry_bytes}
+use Rattle.layout.specs.Entries.{page_mark, page_mark_at, count_at, first_at, zeros_at, entries_at, entry_size, file_at, below_at, most_entries, head_in, count_fits, entry_at, stored_in, entry_of, check_entry, link_address, stored_form, entry_bytes, all_entry_bytes}
 use Rattle.layout.specs.Pages.{PageData, page_front, page_bytes, prepend, rows_in, with_rows, with_head, page_in, no_page, LinkFits, EntryFits, PageFits, DirectoryPages}
 use Rattle.layout.proofs.Numbers.{word-stored, word-whole}
 use Rattle.numbers.proofs.Linking.{leads-says, leads-from, led-to}
 use Rattle.numbers.proofs.Naming.{only, sized}
-use Rattle.layout.proofs.Reading.{entry-between}
+use Rattle.layout.proofs.Reading.{asked, entry-between}
 use Rattle.layout.proofs.Writing.{part-whole, length_part, length-written}
 
 -- LINKS
-link-due : (size : ℕ) (leaf : Bool) (l : Option Sector) → LinkFits size leaf l → as_due size (not leaf) (link_address l) ≡ true
-link-due size true None f = refl
-link-due size true (Some s) f = absurd f
-link-due size false None f = absurd f
-link-due size false (Some s) f = leads-from size s.0 f.0 f.1
-
-link-back : (size : ℕ) (leaf : Bool) (l : Option Sector) → LinkFits size leaf l → sector_at size (link_address l) ≡ l
-link-back size true None f = refl
-link-back size true (Some s) f = absurd f
-link-back size false None f = absurd f
-link-back size false (Some s) f = led-to size s f.0 f.1
-
-link-small : (size : ℕ) (leaf : Bool) (l : Option Sector) → size < 2 ^ 16 → LinkFits size leaf l → link_address l < 2 ^ 32
-link-small size true None h f = omega arith
-link-small size true (Some s) h f = absurd f
-link-small size false None h f = absurd f
-link-small size false (Some s) h f = omega (arith, f.1)
-
-link-leaf : (size : ℕ) (l : Option Sector) → LinkFits size (no_page l) l → eqb (link_address l) 0 ≡ no_page l
-link-leaf size None f = refl
-link-leaf size (Some s) f = ne_eqb (address s.0) 0 (omega (arith, f.0))
+-- a link that fits: its address is as due, leads back to it, is small, and is 0 just in a leaf
+link-says : (size : ℕ) (leaf : Bool) (l : Option Sector) → LinkFits size leaf l → (as_due size (not leaf) (link_address l) ≡ true) × (sector_at size (link_address l) ≡ l) × (size < 2 ^ 16 → link_address l < 2 ^ 32) × (eqb (link_address l) 0 ≡ leaf)
+link-says size true None f = (refl, refl, λ h. omega arith, refl)
+link-says size true (Some s) f = absurd f
+link-says size false None f = absurd f
+link-says size false (Some s) f = (leads-from size s.0 f.0 f.1, led-to size s f.0 f.1, λ h. omega (arith, f.1), ne_eqb (address s.0) 0 (omega (arith, f.0)))
 
 -- an address that is as due
 link-only : (size : ℕ) (leaf : Bool) (w : ℕ) → as_due size (not leaf) w ≡ true → (link_address (sector_at size w) ≡ w) × LinkFits size leaf (sector_at size w) × (no_page (sector_at size w) ≡ leaf)
@@ -56,7 +41,7 @@ link-only size false w e =
 
 -- a page that fits has at most 24 entries
 count_most : (kind : PageKind) (leaf : Bool) (m : ℕ) → count_fits kind leaf m ≡ true → m ≤ most_entries
-count_most kind leaf m h = leb-true m most_entries (and_parts (leb (least_of kind leaf) m) (leb m most_entries) h).1
+count_most kind leaf m h = grind (arith, nat_tests)
 
 -- ENTRIES, WRITTEN AND READ
 name-long : (f : List ℕ) → is_name_field f ≡ true → length f ≡ name_size
@@ -73,18 +58,17 @@ entries-long size leaf (e ∷ es) f =
 module _ (size : ℕ) (leaf : Bool) (small : size < 2 ^ 16) where
   entry-at : (pre rest : Contents) (e : Entry) (i : ℕ) → length pre ≡ entry_at i → EntryFits size leaf e → check_entry size leaf (stored_in (pre ++ (entry_bytes e ++ rest)) i) ≡ Ok e
   entry-at pre rest e i l f =
+      let k = link-says size leaf e.below f.below in
       let a = address e.file.0 in
       let b = link_address e.below in
       let c = pre ++ (entry_bytes e ++ rest) in
       let s : stored_in c i ≡ stored_form e =
-      entry-between pre rest (stored_form e) (entry_at i) l (name-long e.name.bytes f.name) (omega (arith, f.file.1)) (link-small size leaf e.below small f.below) in
+      entry-between pre rest (stored_form e) (entry_at i) l (name-long e.name.bytes f.name) (omega (arith, f.file.1)) (k.2 small) in
       let q : a / address_step ≡ e.file.0 = omega arith in
       let o : entry_of size (stored_form e) ≡ e =
-      λ j. record { name = e.name; file = record { 0 = q j }; below = link-back size leaf e.below f.below j } in
-      let t = and_from (leads size a) (as_due size (not leaf) b) (leads-from size e.file.0 f.file.0 f.file.1) (link-due size leaf e.below f.below) in
-      ap (check_entry size leaf) s
-      ∙ ap₂ (λ (x y : Bool). cond x (cond y (Ok (entry_of size (stored_form e))) (Err BadLink)) (Err BadName)) f.name t
-      ∙ ap (λ (x : Entry). Ok x) o
+      λ j. record { name = e.name; file = record { 0 = q j }; below = k.1 j } in
+      let t = and_from (leads size a) (as_due size (not leaf) b) (leads-from size e.file.0 f.file.0 f.file.1) k.0 in
+      ap (check_entry size leaf) s ∙ rw (f.name, t) (ap (λ (x : Entry). Ok x) o)
 
   rows_at : (pre rest : Contents) (es : List Entry) (i : ℕ) → length pre ≡ entry_at i → AllByRecursion (EntryFits size leaf) es → rows_in size leaf (pre ++ (all_entry_bytes es ++ rest)) i (length es) ≡ Ok es
   rows_at pre rest [] i l f = refl
@@ -102,37 +86,36 @@ page-back kind size c p h f =
     let m = length p.rows in
     let q = link_address p.first in
     let leaf = no_page p.first in
+    let k = link-says size leaf p.first f.first in
     let w = written c 0 (page_front p) in
     let front = stored page_mark ++ (stored m ++ (stored q ++ replicate (entries_at - zeros_at) 0)) in
     let few = count_most kind leaf m f.count in
     let em : word w count_at ≡ m = word-stored m (stored q ++ (replicate (entries_at - zeros_at) 0 ++ (all_entry_bytes p.rows ++ rest))) (omega (arith, few)) in
-    let eq : word w first_at ≡ q = word-stored q (replicate (entries_at - zeros_at) 0 ++ (all_entry_bytes p.rows ++ rest)) (link-small size leaf p.first h f.first) in
+    let eq : word w first_at ≡ q = word-stored q (replicate (entries_at - zeros_at) 0 ++ (all_entry_bytes p.rows ++ rest)) (k.2 h) in
     let head : head_in w ≡ Ok (record { count = m; first = record { 0 = q } }) = λ j. Ok (record { count = em j; first = record { 0 = eq j } }) in
     let rows : rows_in size leaf w 0 m ≡ Ok p.rows = rows_at size leaf h front rest p.rows 0 refl f.entries in
-    ap (with_head kind size w) head ∙ go w m q leaf p.first p.rows (link-leaf size p.first f.first) f.count (link-due size leaf p.first f.first) (link-back size leaf p.first f.first) rows
+    ap (with_head kind size w) head ∙ go w m q leaf p.first p.rows k.3 f.count k.0 k.1 rows
   where
     go : (w : Contents) (m q : ℕ) (leaf : Bool) (first : Option Sector) (es : List Entry) → eqb q 0 ≡ leaf → count_fits kind leaf m ≡ true → as_due size (not leaf) q ≡ true → sector_at size q ≡ first → rows_in size leaf w 0 m ≡ Ok es → with_head kind size w (Ok (record { count = m; first = record { 0 = q } })) ≡ Ok (record { first = first; rows = es })
-    go w m q leaf first es a b d e r =
-        ap (λ (x : Bool). cond (count_fits kind x m) (cond (as_due size (not x) q) (with_rows (sector_at size q) (rows_in size x w 0 m)) (Err BadLink)) (Err (count_fault kind x))) a
-        ∙ ap₂ (λ (x y : Bool). cond x (cond y (with_rows (sector_at size q) (rows_in size leaf w 0 m)) (Err BadLink)) (Err (count_fault kind leaf))) b d
-        ∙ ap₂ with_rows e r
+    go w m q leaf first es a b d e r = rw (a, b, d, e, r)
 
 -- READ: WHAT STOOD THERE
 all-zero : (l : List ℕ) → every (λ b. eqb b 0) l ≡ true → l ≡ replicate (length l) 0
 all-zero [] h = refl
 all-zero (x ∷ l) h = let p = and_parts (eqb x 0) (every (λ b. eqb b 0) l) h in ap₂ ◌∷◌ (eqb-true x 0 p.0) (all-zero l p.1)
 
+prepend-says : (x : Result Entry PageFault) (y : Result (List Entry) PageFault) (es : List Entry) → prepend x y ≡ Ok es → (e : Entry) × (xs : List Entry) × (x ≡ Ok e) × (y ≡ Ok xs) × (es ≡ e ∷ xs)
+prepend-says (Ok e) (Ok xs) es h = (e, xs, refl, refl, cc)
+prepend-says (Ok e) (Err f) es h = cc
+prepend-says (Err f) y es h = cc
+
 -- what an accepted entry says
 entry-says : (size : ℕ) (leaf : Bool) (s : StoredEntry) (e : Entry) → check_entry size leaf s ≡ Ok e → (is_name_field s.name.bytes ≡ true) × (leads size s.file.0 ≡ true) × (as_due size (not leaf) s.below.0 ≡ true) × (entry_of size s ≡ e)
-entry-says size leaf s e h = go (is_name_field s.name.bytes) (leads size s.file.0 && as_due size (not leaf) s.below.0) refl refl h
-  where
-    go : (x y : Bool) → is_name_field s.name.bytes ≡ x → (leads size s.file.0 && as_due size (not leaf) s.below.0) ≡ y → cond x (cond y (Ok (entry_of size s)) (Err BadLink)) (Err BadName) ≡ Ok e → (is_name_field s.name.bytes ≡ true) × (leads size s.file.0 ≡ true) × (as_due size (not leaf) s.below.0 ≡ true) × (entry_of size s ≡ e)
-    go true true a b h =
-        let p = and_parts (leads size s.file.0) (as_due size (not leaf) s.below.0) b in
-        let o : entry_of size s ≡ e = cc in
-        (a, p.0, p.1, o)
-    go true false a b h = let z : ◌≡◌ {A = ℕ} 0 1 = cc in absurd (omega arith)
-    go false y a b h = let z : ◌≡◌ {A = ℕ} 0 1 = cc in absurd (omega arith)
+entry-says size leaf s e h =
+    let a = asked (λ r. r) _ _ _ refl h in
+    let b = asked (λ r. r) _ _ _ refl a.1 in
+    let k = and_parts _ _ b.0 in
+    (a.0, k.0, k.1, cc (b.1))
 
 module _ (size : ℕ) (leaf : Bool) (c : Contents) (bytes : Bytes c) where
   entry-only : (i : ℕ) (e : Entry) → entry_at i + entry_size ≤ length c → check_entry size leaf (stored_in c i) ≡ Ok e → EntryFits size leaf e × (drop (entry_at i) c ≡ entry_bytes e ++ drop (entry_at i + entry_size) c)
@@ -143,16 +126,12 @@ module _ (size : ℕ) (leaf : Bool) (c : Contents) (bytes : Bytes c) where
       let q = leads-says size s.file.0 p.1 in
       let k = link-only size leaf s.below.0 p.2 in
       let fits : EntryFits size leaf (entry_of size s) = record { name = p.0; file = (q.1, q.2); below = k.1 } in
-      let n1 : at + name_size ≡ at + file_at = refl in
       let n2 : at + file_at + word_size ≡ at + below_at = omega arith in
       let n3 : at + below_at + word_size ≡ at + entry_size = omega arith in
-      let d3 : drop (at + below_at) c ≡ stored s.below.0 ++ drop (at + entry_size) c = word-whole c (at + below_at) bytes (omega arith) ∙ ap (λ (j : ℕ). stored s.below.0 ++ drop j c) n3 in
-      let d2 : drop (at + file_at) c ≡ stored s.file.0 ++ (stored s.below.0 ++ drop (at + entry_size) c) =
-      word-whole c (at + file_at) bytes (omega arith) ∙ ap (λ (j : ℕ). stored s.file.0 ++ drop j c) n2 ∙ ap (λ (t : List ℕ). stored s.file.0 ++ t) d3 in
-      let d1 = part-whole c at name_size ∙ ap (λ (t : List ℕ). part c at name_size ++ t) d2 in
-      let eq : drop at c ≡ entry_bytes (entry_of size s) ++ drop (at + entry_size) c =
-      d1 ∙ ap₂ (λ (x y : ℕ). part c at name_size ++ (stored x ++ (stored y ++ drop (at + entry_size) c))) q.0 (sym k.0)
-      ∙ sym (append_assoc (part c at name_size) (stored (address (entry_of size s).file.0) ++ stored (link_address (entry_of size s).below)) (drop (at + entry_size) c)) in
+      let d1 = part-whole c at name_size in
+      let d2 = word-whole c (at + file_at) bytes (omega arith) in
+      let d3 = word-whole c (at + below_at) bytes (omega arith) in
+      let eq : drop at c ≡ entry_bytes (entry_of size s) ++ drop (at + entry_size) c = rw append_assoc (cc (q.0, k.0)) in
       (subst (EntryFits size leaf) p.3 fits, subst (λ (x : Entry). drop at c ≡ entry_bytes x ++ drop (at + entry_size) c) p.3 eq)
 
   rows-only : (m i : ℕ) (es : List Entry) → entry_at i + entry_size * m ≤ length c → rows_in size leaf c i m ≡ Ok es → (length es ≡ m) × AllByRecursion (EntryFits size leaf) es × (drop (entry_at i) c ≡ all_entry_bytes es ++ drop (entry_at i + entry_size * m) c)
@@ -160,23 +139,20 @@ module _ (size : ℕ) (leaf : Bool) (c : Contents) (bytes : Bytes c) where
       let e : [] ≡ es = cc in
       let n : entry_at i ≡ entry_at i + entry_size * 0 = omega arith in
       subst (λ (x : List Entry). (length x ≡ 0) × AllByRecursion (EntryFits size leaf) x × (drop (entry_at i) c ≡ all_entry_bytes x ++ drop (entry_at i + entry_size * 0) c)) e (refl, tt, ap (λ (j : ℕ). drop j c) n)
-  rows-only (suc m) i es l h = go (λ es k. rows-only m (suc i) es (omega arith) k) (check_entry size leaf (stored_in c i)) (rows_in size leaf c (suc i) m) refl refl h
-    where
-      Holds : List Entry → Type 0
-      Holds es = (length es ≡ suc m) × AllByRecursion (EntryFits size leaf) es × (drop (entry_at i) c ≡ all_entry_bytes es ++ drop (entry_at i + entry_size * suc m) c)
+  rows-only (suc m) i es l h =
+      let p = prepend-says _ _ es h in
+      let o = entry-only i p.0 (omega arith) p.2 in
+      let r = rows-only m (suc i) p.1 (omega arith) p.3 in
+      let n1 : entry_at i + entry_size ≡ entry_at (suc i) = omega arith in
+      let n2 : entry_at (suc i) + entry_size * m ≡ entry_at i + entry_size * suc m = omega arith in
+      let d : drop (entry_at i) c ≡ (entry_bytes p.0 ++ all_entry_bytes p.1) ++ drop (entry_at i + entry_size * suc m) c = rw (append_assoc (entry_bytes p.0) (all_entry_bytes p.1) (drop (entry_at i + entry_size * suc m) c)) (cc (o.1, r.2)) in
+      subst (λ (x : List Entry). (length x ≡ suc m) × AllByRecursion (EntryFits size leaf) x × (drop (entry_at i) c ≡ all_entry_bytes x ++ drop (entry_at i + entry_size * suc m) c)) (sym p.4) (ap suc r.0, (o.0, r.1), d)
 
-      go : ((es : List Entry) → rows_in size leaf c (suc i) m ≡ Ok es → (length es ≡ m) × AllByRecursion (EntryFits size leaf) es × (drop (entry_at (suc i)) c ≡ all_entry_bytes es ++ drop (entry_at (suc i) + entry_size * m) c)) → (x : Result Entry PageFault) (y : Result (List Entry) PageFault) → check_entry size leaf (stored_in c i) ≡ x → rows_in size leaf c (suc i) m ≡ y → prepend x y ≡ Ok es → Holds es
-      go ih (Ok e) (Ok xs) a b h =
-          let o = entry-only i e (omega arith) a in
-          let r = ih xs b in
-          let s : e ∷ xs ≡ es = cc in
-          let n1 : entry_at i + entry_size ≡ entry_at (suc i) = omega arith in
-          let n2 : entry_at (suc i) + entry_size * m ≡ entry_at i + entry_size * suc m = omega arith in
-          let d = o.1 ∙ ap (λ (j : ℕ). entry_bytes e ++ drop j c) n1 ∙ ap (λ (t : List ℕ). entry_bytes e ++ t) (r.2 ∙ ap (λ (j : ℕ). all_entry_bytes xs ++ drop j c) n2)
-          ∙ sym (append_assoc (entry_bytes e) (all_entry_bytes xs) (drop (entry_at i + entry_size * suc m) c)) in
-          subst Holds s (ap suc r.0, (o.0, r.1), d)
-      go ih (Ok e) (Err f) a b h = let z : ◌≡◌ {A = ℕ} 0 1 = cc in absurd (omega arith)
-      go ih (Err f) y a b h = let z : ◌≡◌ {A = ℕ} 0 1 = cc in absurd (omega arith)
+rows-say : (o : Option Sector) (r : Result (List Entry) PageFault) (p : PageData) → with_rows o r ≡ Ok p → (o ≡ p.first) × (r ≡ Ok p.rows)
+rows-say o (Ok es) p h =
+    let s : record { first = o; rows = es } ≡ p = cc in
+    (ap (λ (x : PageData). x.first) s, ap (λ (x : PageData). Ok x.rows) s)
+rows-say o (Err f) p h = cc
 
 -- what an accepted page says
 pub record Says (kind : PageKind) (size : ℕ) (c : Contents) (p : PageData) : Type 0 where
@@ -188,30 +164,13 @@ pub record Says (kind : PageKind) (size : ℕ) (c : Contents) (p : PageData) : T
   pub rows : rows_in size (eqb (word c first_at) 0) c 0 (word c count_at) ≡ Ok p.rows
 
 page-says : (kind : PageKind) (size : ℕ) (c : Contents) (p : PageData) → page_in kind size c ≡ Ok p → Says kind size c p
-page-says kind size c p h = head (eqb (word c page_mark_at) page_mark && every (λ b. eqb b 0) (part c zeros_at (entries_at - zeros_at))) refl h
-  where
-    m : ℕ
-    m = word c count_at
-
-    q : ℕ
-    q = word c first_at
-
-    leaf : Bool
-    leaf = eqb q 0
-
-    body : word c page_mark_at ≡ page_mark → every (λ b. eqb b 0) (part c zeros_at (entries_at - zeros_at)) ≡ true → (x y : Bool) (r : Result (List Entry) PageFault) → count_fits kind leaf m ≡ x → as_due size (not leaf) q ≡ y → rows_in size leaf c 0 m ≡ r → cond x (cond y (with_rows (sector_at size q) r) (Err BadLink)) (Err (count_fault kind leaf)) ≡ Ok p → Says kind size c p
-    body a b true true (Ok es) d e g h =
-        let s : record { first = sector_at size q; rows = es } ≡ p = cc in
-        subst (Says kind size c) s (record { mark = a; zeros = b; count = d; link = e; first = refl; rows = g })
-    body a b true true (Err f) d e g h = let z : ◌≡◌ {A = ℕ} 0 1 = cc in absurd (omega arith)
-    body a b true false r d e g h = let z : ◌≡◌ {A = ℕ} 0 1 = cc in absurd (omega arith)
-    body a b false y r d e g h = let z : ◌≡◌ {A = ℕ} 0 1 = cc in absurd (omega arith)
-
-    head : (x : Bool) → (eqb (word c page_mark_at) page_mark && every (λ b. eqb b 0) (part c zeros_at (entries_at - zeros_at))) ≡ x → with_head kind size c (cond x (Ok (record { count = m; first = record { 0 = q } })) (Err Mark)) ≡ Ok p → Says kind size c p
-    head true a h =
-        let k = and_parts (eqb (word c page_mark_at) page_mark) (every (λ b. eqb b 0) (part c zeros_at (entries_at - zeros_at))) a in
-        body (eqb-true (word c page_mark_at) page_mark k.0) k.1 (count_fits kind leaf m) (as_due size (not leaf) q) (rows_in size leaf c 0 m) refl refl refl h
-    head false a h = let z : ◌≡◌ {A = ℕ} 0 1 = cc in absurd (omega arith)
+page-says kind size c p h =
+    let a = asked (with_head kind size c) _ _ _ refl h in
+    let b = and_parts _ _ a.0 in
+    let d = asked (λ r. r) _ _ _ refl a.1 in
+    let e = asked (λ r. r) _ _ _ refl d.1 in
+    let r = rows-say _ _ p e.1 in
+    record { mark = eqb-true _ _ b.0; zeros = b.1; count = d.0; link = e.0; first = r.0; rows = r.1 }
 
 front_long : (kind : PageKind) (size : ℕ) (p : PageData) → PageFits kind size p → length (page_front p) ≡ entries_at + entry_size * length p.rows
 front_long kind size p f = omega (arith, entries-long size (no_page p.first) p.rows f.entries)
@@ -226,29 +185,19 @@ page-only kind size c p l b h =
     let few = count_most kind leaf m s.count in
     let r = rows-only size leaf c b m 0 p.rows (omega arith) s.rows in
     let n : no_page p.first ≡ leaf = ap no_page (sym s.first) ∙ k.2 in
-    let fits = fitting kind size p leaf m n r.0 s.count (subst (LinkFits size leaf) s.first k.1) r.1 in
+    let fits : PageFits kind size p = record {
+      count = ap₂ (count_fits kind) n r.0 ∙ s.count;
+      first = subst (λ (x : Bool). LinkFits size x p.first) (sym n) (subst (LinkFits size leaf) s.first k.1);
+      entries = subst (λ (x : Bool). AllByRecursion (EntryFits size x) p.rows) (sym n) r.1;
+    } in
     let z : part c zeros_at (entries_at - zeros_at) ≡ replicate (entries_at - zeros_at) 0 = all-zero (part c zeros_at (entries_at - zeros_at)) s.zeros ∙ ap (λ (j : ℕ). replicate j 0) (length_part c zeros_at (entries_at - zeros_at) (omega arith)) in
     let a : link_address p.first ≡ q = ap link_address (sym s.first) ∙ k.0 in
-    (fits, whole s.mark (sym r.0) (sym a) z r.2 (front_long kind size p fits))
-  where
-    fitting : (kind : PageKind) (size : ℕ) (p : PageData) (leaf : Bool) (m : ℕ) → no_page p.first ≡ leaf → length p.rows ≡ m → count_fits kind leaf m ≡ true → LinkFits size leaf p.first → AllByRecursion (EntryFits size leaf) p.rows → PageFits kind size p
-    fitting kind size p leaf m n e a b d =
-        record {
-          count = ap₂ (count_fits kind) n e ∙ a;
-          first = subst (λ (x : Bool). LinkFits size x p.first) (sym n) b;
-          entries = subst (λ (x : Bool). AllByRecursion (EntryFits size x) p.rows) (sym n) d;
-        }
-
-    whole : word c page_mark_at ≡ page_mark → word c count_at ≡ length p.rows → word c first_at ≡ link_address p.first → part c zeros_at (entries_at - zeros_at) ≡ replicate (entries_at - zeros_at) 0 → drop entries_at c ≡ all_entry_bytes p.rows ++ drop (entries_at + entry_size * word c count_at) c → length (page_front p) ≡ entries_at + entry_size * length p.rows → c ≡ written c 0 (page_front p)
-    whole e1 e2 e3 e4 e5 e6 =
-        let j : entries_at + entry_size * word c count_at ≡ 0 + length (page_front p) = omega arith in
-        let es = all_entry_bytes p.rows in
-        let rest = drop (0 + length (page_front p)) c in
-        let d5 : drop entries_at c ≡ es ++ rest = e5 ∙ ap (λ (i : ℕ). es ++ drop i c) j in
-        let d4 : drop zeros_at c ≡ replicate (entries_at - zeros_at) 0 ++ (es ++ rest) = part-whole c zeros_at (entries_at - zeros_at) ∙ ap₂ ◌++◌ e4 d5 in
-        let d3 : drop first_at c ≡ stored (link_address p.first) ++ (replicate (entries_at - zeros_at) 0 ++ (es ++ rest)) = word-whole c first_at b (omega arith) ∙ ap₂ (λ (x : ℕ) (t : List ℕ). stored x ++ t) e3 d4 in
-        let d2 : drop count_at c ≡ stored (length p.rows) ++ (stored (link_address p.first) ++ (replicate (entries_at - zeros_at) 0 ++ (es ++ rest))) = word-whole c count_at b (omega arith) ∙ ap₂ (λ (x : ℕ) (t : List ℕ). stored x ++ t) e2 d3 in
-        word-whole c page_mark_at b (omega arith) ∙ ap₂ (λ (x : ℕ) (t : List ℕ). stored x ++ t) e1 d2
+    let j : entries_at + entry_size * m ≡ 0 + length (page_front p) = omega (arith, front_long kind size p fits) in
+    let d4 = part-whole c zeros_at (entries_at - zeros_at) ∙ ap₂ ◌++◌ z (r.2 ∙ ap (λ (i : ℕ). all_entry_bytes p.rows ++ drop i c) j) in
+    let d3 = word-whole c first_at b (omega arith) in
+    let d2 = word-whole c count_at b (omega arith) in
+    let d1 = rw s.mark at (word-whole c page_mark_at b (omega arith)) in
+    (fits, cc (r.0))
 
 page-fits : (kind : PageKind) (size : ℕ) (p : PageData) → PageFits kind size p → length (page_bytes p) ≡ sector_size
 unfolding blank

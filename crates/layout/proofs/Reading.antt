@@ -1,5 +1,5 @@
 -- What stands in a sector, read.
-use Rattle.std.proofs.Common.{◌≡◌, ℕ, zero, suc, ◌+◌, ◌*◌, ◌^◌, ◌<◌, ◌≤◌, Bool, true, false, eqb, List, [], ◌∷◌, ◌++◌, map, length, get_or, take, drop, sym, refl, ap, ap₂, ◌∙◌, subst, append_assoc, arith}
+use Rattle.std.proofs.Common.{◌≡◌, ℕ, zero, suc, ◌+◌, ◌*◌, ◌^◌, ◌<◌, ◌≤◌, Bool, true, false, cond, eqb, Ok, Err, Result, List, [], ◌∷◌, ◌++◌, map, length, get_or, take, drop, sym, refl, ap, ap₂, ◌∙◌, subst, append_assoc, arith}
 use Rattle.std.specs.List.{AllByRecursion}
 use Rattle.std.proofs.lemmas.List.{ext_get_or, get_or-map, length-map, length-append, length-take-le}
 use Rattle.std.proofs.lemmas.Bool.{eqb-true, eqb-false}
@@ -13,6 +13,11 @@ use Rattle.layout.specs.Words.{Contents, word_size, word, words, stored, stored_
 use Rattle.layout.specs.Entries.{StoredValues, file_at, below_at, stored_at, stored_entry_bytes}
 use Rattle.layout.proofs.Numbers.{word-past, word-stored}
 use Rattle.layout.proofs.Writing.{length-words, words-at, part_at}
+
+-- what was asked of an accepted value, and what was asked next
+pub asked : {A B E : Type 0} (g : Result B E → Result A E) (x : Bool) (r : Result B E) (f : E) {a : A} → g (Err f) ≡ Err f → g (cond x r (Err f)) ≡ Ok a → (x ≡ true) × (g r ≡ Ok a)
+asked g true r f s e = (refl, e)
+asked g false r f s e = cc
 
 get_or-words : (c : Contents) (i n k : ℕ) → k < n → get_or (words c i n) k 0 ≡ word c (i + word_size * k)
 get_or-words c i zero k h = absurd (omega arith)
@@ -31,12 +36,16 @@ module _ {F B : Type 0} (g : Mut F (ℕ × Unit {0}) B) (f : F) (R : ℕ → B �
       go r later true h = subst (λ (k : ℕ). R k (get_or ys k d)) (eqb-true i j h) (subst (R i) (sym (at.1 d)) r)
       go r later false h = later (eqb-false i j h)
 
+pub length-addresses : (c : Contents) (i n : ℕ) → length (addresses_in c i n) ≡ n
+length-addresses c i n =
+    let f : ℕ → Address = λ w. record { 0 = w } in
+    length-map (words c i n) f ∙ length-words c i n
+
 -- addresses each of which was read from its place
 pub addresses-read : (c : Contents) (i n : ℕ) (list : List Address) → length list ≡ n → ((k : ℕ) → k < n → (get_or list k (record { 0 = 0 })).0 ≡ word c (i + word_size * k)) → list ≡ addresses_in c i n
 addresses-read c i n list l f =
     let m : ℕ → Address = λ w. record { 0 = w } in
-    let ln : length (addresses_in c i n) ≡ n = length-map (words c i n) m ∙ length-words c i n in
-    ext_get_or (record { 0 = 0 }) list (addresses_in c i n) (l ∙ sym ln)
+    ext_get_or (record { 0 = 0 }) list (addresses_in c i n) (l ∙ sym (length-addresses c i n))
     (λ k h. ap m (f k (omega arith) ∙ sym (get_or-words c i n k (omega arith))) ∙ sym (get_or-map m (words c i n) k 0 (record { 0 = 0 }) (omega (arith, length-words c i n))))
 
 -- ADDRESSES AND NUMBERS
@@ -60,15 +69,14 @@ entry-between pre rest s i l ln fa fb =
     let n = s.name.bytes in
     let a = s.file.0 in
     let b = s.below.0 in
-    let c = pre ++ (stored_entry_bytes s ++ rest) in
-    let flat : c ≡ pre ++ (n ++ (stored a ++ (stored b ++ rest))) = ap (λ (t : List ℕ). pre ++ t) (append_assoc n (stored a ++ stored b) rest) in
-    let halves : c ≡ (pre ++ n) ++ (stored a ++ (stored b ++ rest)) = flat ∙ sym (append_assoc pre n (stored a ++ (stored b ++ rest))) in
+    let flat : pre ++ (stored_entry_bytes s ++ rest) ≡ pre ++ (n ++ (stored a ++ (stored b ++ rest))) = simp append_assoc in
+    let halves : pre ++ (stored_entry_bytes s ++ rest) ≡ (pre ++ n) ++ (stored a ++ (stored b ++ rest)) = simp append_assoc in
     let lf : length (pre ++ n) ≡ i + file_at = length-append pre n ∙ omega arith in
     let k0 : i + file_at ≡ i + file_at + 0 = omega arith in
     let k4 : i + below_at ≡ i + file_at + 4 = omega arith in
-    let en : part c i name_size ≡ n = ap (λ (t : Contents). part t i name_size) flat ∙ part_at pre n (stored a ++ (stored b ++ rest)) i name_size l ln in
-    let ea : word c (i + file_at) ≡ a = ap₂ word halves k0 ∙ word-past (pre ++ n) (stored a ++ (stored b ++ rest)) (i + file_at) 0 lf ∙ word-stored a (stored b ++ rest) fa in
-    let eb : word c (i + below_at) ≡ b = ap₂ word halves k4 ∙ word-past (pre ++ n) (stored a ++ (stored b ++ rest)) (i + file_at) 4 lf ∙ word-stored b rest fb in
+    let en = ap (λ (t : Contents). part t i name_size) flat ∙ part_at pre n (stored a ++ (stored b ++ rest)) i name_size l ln in
+    let ea = ap₂ word halves k0 ∙ word-past (pre ++ n) (stored a ++ (stored b ++ rest)) (i + file_at) 0 lf ∙ word-stored a (stored b ++ rest) fa in
+    let eb = ap₂ word halves k4 ∙ word-past (pre ++ n) (stored a ++ (stored b ++ rest)) (i + file_at) 4 lf ∙ word-stored b rest fb in
     λ j. record { name = record { bytes = en j }; file = record { 0 = ea j }; below = record { 0 = eb j } }
 
 pub stored-values : StoredValues

@@ -1,8 +1,9 @@
 -- Fields written and read one after another.
 use Rattle.std.proofs.Common.{◌≡◌, ℕ, zero, suc, ◌+◌, ◌*◌, ◌^◌, ◌<◌, ◌≤◌, List, [], ◌∷◌, ◌++◌, length, take, drop, sym, refl, ap, ◌∙◌, ap₂, append_assoc, arith}
 use Rattle.std.specs.List.{AllByRecursion}
-use Rattle.std.proofs.lemmas.List.{length-append, length-take-le, length-drop, take_at, drop_at, drop-drop, take-append-drop}
-use Rattle.layout.specs.Words.{Contents, Bytes, word_size, word, words, stored, stored_all, written}
+use Rattle.std.proofs.lemmas.List.{length-append, length-take-le, take_at, drop_at, drop-drop, take-append-drop}
+use Rattle.std.proofs.lemmas.Grind.{common_steps}
+use Rattle.layout.specs.Words.{Contents, Bytes, word_size, words, stored, stored_all, written}
 use Rattle.layout.proofs.Numbers.{word_at, word-whole, word_fits}
 pub use Rattle.layout.proofs.Numbers.{part_at, part-whole, length_part}
 
@@ -12,33 +13,28 @@ written_none c i = let e : i + 0 ≡ i = omega arith in ap (λ (j : ℕ). take i
 
 pub length-written : (c : Contents) (i : ℕ) (bs : List ℕ) → i + length bs ≤ length c → length (written c i bs) ≡ length c
 length-written c i bs h =
-    let a = length-append (take i c) (bs ++ drop (i + length bs) c) in
-    let b = length-append bs (drop (i + length bs) c) in
-    let d = length-take-le i c (omega arith) in
-    let e = length-drop (i + length bs) c in
-    omega (arith, a, b, d, e)
+    grind (arith, common_steps)
 
 -- what is written right behind is written together
 pub written-more : (c : Contents) (i n : ℕ) (xs ys : List ℕ) → i + length xs ≡ n → i ≤ length c → written (written c i xs) n ys ≡ written c i (xs ++ ys)
 written-more c i n xs ys e h =
-    let front = take i c ++ xs in
     let rest = drop (i + length xs) c in
-    let w : written c i xs ≡ front ++ rest = sym (append_assoc (take i c) xs rest) in
-    let l : length front ≡ n = length-append (take i c) xs ∙ omega (arith, length-take-le i c h) in
-    let t : take n (written c i xs) ≡ front = ap (take n) w ∙ take_at front rest n l in
-    let d : drop n (written c i xs) ≡ rest = ap (drop n) w ∙ drop_at front rest n l in
+    let w : written c i xs ≡ (take i c ++ xs) ++ rest = sym (append_assoc (take i c) xs rest) in
+    let l : length (take i c ++ xs) ≡ n = length-append (take i c) xs ∙ omega (arith, length-take-le i c h) in
     let k : i + length xs + length ys ≡ i + length (xs ++ ys) = omega (arith, length-append xs ys) in
-    let f : drop (n + length ys) (written c i xs) ≡ drop (i + length (xs ++ ys)) c =
-    sym (drop-drop (length ys) n (written c i xs)) ∙ ap (drop (length ys)) d ∙ drop-drop (length ys) (i + length xs) c ∙ ap (λ (j : ℕ). drop j c) k in
-    ap₂ (λ (p q : List ℕ). p ++ (ys ++ q)) t f ∙ append_assoc (take i c) xs (ys ++ drop (i + length (xs ++ ys)) c)
-    ∙ ap (λ (q : List ℕ). take i c ++ q) (sym (append_assoc xs ys (drop (i + length (xs ++ ys)) c)))
+    let t = take_at (take i c ++ xs) rest n l in
+    let d = drop_at (take i c ++ xs) rest n l in
+    rw (w, t, ← drop-drop (length ys) n ((take i c ++ xs) ++ rest), d, drop-drop (length ys) (i + length xs) c, k) (simp append_assoc)
+
+pub next : (c s t : Contents) (i n : ℕ) (xs ys : List ℕ) → s ≡ written c i xs → t ≡ written s n ys → i + length xs ≡ n → i ≤ length c → t ≡ written c i (xs ++ ys)
+next c s t i n xs ys e f l h = f ∙ ap (λ (x : Contents). written x n ys) e ∙ written-more c i n xs ys l h
 
 -- a field, then two numbers right behind it
 pub three-written : (c s t u : Contents) (i j k : ℕ) (xs : List ℕ) (v w : ℕ) → s ≡ written c i xs → t ≡ written s j (stored v) → u ≡ written t k (stored w) → i + length xs ≡ j → j + word_size ≡ k → i ≤ length c → u ≡ written c i (xs ++ (stored v ++ stored w))
 three-written c s t u i j k xs v w e f g p q h =
-    let a : t ≡ written c i (xs ++ stored v) = f ∙ ap (λ (x : Contents). written x j (stored v)) e ∙ written-more c i j xs (stored v) p h in
-    let l : i + length (xs ++ stored v) ≡ k = omega (arith, length-append xs (stored v)) in
-    g ∙ ap (λ (x : Contents). written x k (stored w)) a ∙ written-more c i k (xs ++ stored v) (stored w) l h ∙ ap (written c i) (append_assoc xs (stored v) (stored w))
+    let a = next c s t i j xs (stored v) e f p h in
+    let b = next c t u i k (xs ++ stored v) (stored w) a g (omega (arith, length-append xs (stored v))) h in
+    b ∙ ap (written c i) (append_assoc xs (stored v) (stored w))
 
 -- SEVERAL NUMBERS
 pub length-stored_all : (ws : List ℕ) → length (stored_all ws) ≡ word_size * length ws
@@ -57,17 +53,16 @@ length-words c i (suc n) = ap suc (length-words c (i + word_size) n)
 pub words-at : (p q : Contents) (ws : List ℕ) (n : ℕ) → length p ≡ n → AllByRecursion (λ w. w < 2 ^ 32) ws → words (p ++ (stored_all ws ++ q)) n (length ws) ≡ ws
 words-at p q [] n e h = refl
 words-at p q (w ∷ ws) n e h =
-    let a : p ++ (stored_all (w ∷ ws) ++ q) ≡ p ++ (stored w ++ (stored_all ws ++ q)) = refl in
-    let b : p ++ (stored w ++ (stored_all ws ++ q)) ≡ (p ++ stored w) ++ (stored_all ws ++ q) = sym (append_assoc p (stored w) (stored_all ws ++ q)) in
     let l : length (p ++ stored w) ≡ n + word_size = length-append p (stored w) ∙ omega arith in
-    ap₂ ◌∷◌ (word_at p (stored_all ws ++ q) n w e h.0) (ap (λ (t : List ℕ). words t (n + word_size) (length ws)) b ∙ words-at (p ++ stored w) q ws (n + word_size) l h.1)
+    let t = words-at (p ++ stored w) q ws (n + word_size) l h.1 in
+    ap₂ ◌∷◌ (word_at p (stored_all ws ++ q) n w e h.0) (rw append_assoc at t)
 
 -- numbers that were read have the bytes that they were read from
 pub words-whole : (c : Contents) (i n : ℕ) → Bytes c → i + word_size * n ≤ length c → drop i c ≡ stored_all (words c i n) ++ drop (i + word_size * n) c
 words-whole c i zero b h = let e : i ≡ i + word_size * 0 = omega arith in ap (λ (j : ℕ). drop j c) e
 words-whole c i (suc n) b h =
     let e : i + word_size + word_size * n ≡ i + word_size * suc n = omega arith in
-    word-whole c i b (omega arith) ∙ ap (λ (t : List ℕ). stored (word c i) ++ t) (words-whole c (i + word_size) n b (omega arith) ∙ ap (λ (j : ℕ). stored_all (words c (i + word_size) n) ++ drop j c) e)
+    cc (word-whole c i b (omega arith), words-whole c (i + word_size) n b (omega arith))
 
 pub words-fit : (c : Contents) (i n : ℕ) → Bytes c → i + word_size * n ≤ length c → AllByRecursion (λ w. w < 2 ^ 32) (words c i n)
 words-fit c i zero b h = tt

@@ -1,4 +1,4 @@
-// Directory pages: made, written to sectors and read from them.
+//! Directory pages: made, written to sectors and read from them.
 ghost use Rattle.std.specs.Prelude.{◌≡◌, ◌<◌, ◌≤◌, [], ◌∷◌, ◌++◌, length, codes, Some, Ok, Err, MatchOption, MatchResult, slice_index_or};
 ghost use Rattle.layout.specs.Entries.{most_entries, most_held, entries_at, all_entry_bytes};
 ghost use Rattle.layout.specs.Words.{written};
@@ -15,7 +15,7 @@ use numbers::sector::{Address, Sector};
 use std::error::Error;
 use std::fmt;
 
-// The page has 25 entries and takes no more.
+/// The page has 25 entries and takes no more.
 #[derive(Clone, Copy, Debug, PartialEq, Eq)]
 pub struct PageFull;
 
@@ -30,7 +30,7 @@ impl fmt::Display for PageFull {
 impl Error for PageFull {}
 
 impl Page {
-    // A page without entries.
+    /// A page without entries.
     pub fn new(first: Option<Sector>) -> Page
         ensures { (result.first ≡ first) × (result.rows ≡ []) }
     {
@@ -40,7 +40,8 @@ impl Page {
         }
     }
 
-    // The same page once more.
+    /// The same page once more.
+    // beside `clone`, which answers a Result: this cannot fail
     pub fn copied(&self) -> Page
         ensures { result ≡ self.now }
     {
@@ -50,7 +51,7 @@ impl Page {
         }
     }
 
-    // The number of entries, 25 at most.
+    /// The number of entries, 25 at most.
     pub fn count(&self) -> usize
         ensures value { result ≡ length self.now.rows }
         ensures fits { length self.now.rows ≤ most_held }
@@ -58,14 +59,14 @@ impl Page {
         self.entries.len()
     }
 
-    // Entry `i`.
+    /// Entry `i`.
     pub fn entry(&self, i: usize) -> Option<Entry>
         ensures { MatchOption result (length self.now.rows ≤ i) (λ e. (i < length self.now.rows) × (e ≡ slice_index_or self.now.rows i e)) }
     {
         self.entries.get(i).copied()
     }
 
-    // One entry more, behind the others. A refusal changes nothing.
+    /// One entry more, behind the others. A refusal changes nothing.
     pub fn push(&mut self, entry: Entry) -> Result<(), PageFull>
         ensures { MatchResult result
             (λ _. (self.new.rows ≡ self.old.rows ++ entry ∷ []) × (self.new.first ≡ self.old.first))
@@ -74,7 +75,7 @@ impl Page {
         self.entries.try_push(entry).map_err(|_| PageFull)
     }
 
-    // Writes the entries to their places.
+    /// Writes the entries to their places.
     fn put_entries(&self, sector: &mut SectorBytes)
         requires { length self.now.rows ≤ most_entries }
         ensures { sector.new ≡ written sector.old entries_at (all_entry_bytes self.now.rows) }
@@ -84,7 +85,7 @@ impl Page {
         }
     }
 
-    // The sector that holds the page; none while the page has 25 entries.
+    /// The sector that holds the page; none while the page has 25 entries.
     pub fn encode(&self) -> Option<SectorBytes>
         ensures { MatchOption result (most_entries < length self.now.rows)
             (λ s. (length self.now.rows ≤ most_entries) × (s ≡ page_bytes self.now)) }
@@ -100,7 +101,7 @@ impl Page {
         Some(sector)
     }
 
-    // The page in a sector of a disk of `size` sectors. Asked are the mark and the zeros, the count, the address of the first page, then the entries.
+    /// The page in a sector of a disk of `size` sectors. Asked are the mark and the zeros, the count, the address of the first page, then the entries.
     pub fn decode(sector: &SectorBytes, kind: PageKind, size: u16) -> Result<Page, PageFault>
         ensures { result ≡ page_in kind size sector.now }
     {
@@ -118,7 +119,7 @@ impl Page {
     }
 }
 
-// The entries of a sector, each asked in turn.
+/// The entries of a sector, each asked in turn.
 fn read_entries(
     sector: &SectorBytes,
     count: u32,
@@ -131,7 +132,7 @@ fn read_entries(
         (λ f. rows_in size leaf sector.now 0 count ≡ Err f) }
 {
     let mut entries = ArrayVec::new();
-    // by their number: `load` asks for the place that it gives, and no list of them is there yet
+    // entry i is read from its place in the sector: there is no list to go over yet
     for i in 0..count as usize {
         let entry = StoredEntry::load(sector, ENTRIES_AT + ENTRY_SIZE * i).check(leaf, size)?;
         entries.push(entry);

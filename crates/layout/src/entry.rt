@@ -1,4 +1,4 @@
-// A directory page by its parts: what stands before the entries, and each entry.
+//! A directory page by its parts: what stands before the entries, and each entry.
 ghost use Rattle.std.specs.Prelude.{◌≡◌, ℕ, ◌+◌, ◌*◌, ◌<◌, ◌≤◌, true, false, length, MatchOption, MatchResult, Some, nat_eq};
 ghost use Rattle.numbers.specs.Names.{every};
 ghost use Rattle.layout.specs.Words.{Contents};
@@ -11,10 +11,10 @@ use numbers::sector::{Address, Sector};
 use std::error::Error;
 use std::fmt;
 
-// The mark of a directory page.
+/// The mark of a directory page.
 pub(crate) const PAGE_MARK: u32 = 0x9B1EA38D;
 
-// Where its fields stand: between the first address and the entries the bytes are 0.
+/// Where its fields stand: between the first address and the entries the bytes are 0.
 pub(crate) const MARK_AT: usize = 0;
 
 pub(crate) const COUNT_AT: usize = 4;
@@ -25,19 +25,19 @@ const ZEROS_AT: usize = 12;
 
 pub(crate) const ENTRIES_AT: usize = 64;
 
-// The most entries that a page stores, and the fewest of one that is not the root.
+/// The most entries that a page stores, and the fewest of one that is not the root.
 pub const MOST_ENTRIES: usize = 24;
 
 pub const LEAST_ENTRIES: usize = 12;
 
-// An entry's bytes, and where its addresses stand behind the name.
+/// An entry's bytes, and where its addresses stand behind the name.
 pub(crate) const ENTRY_SIZE: usize = 40;
 
 const FILE_AT: usize = NAME_SIZE;
 
 const BELOW_AT: usize = FILE_AT + WORD_SIZE;
 
-// An entry of a directory page: a name, the first sector of its file, and the page of the names above it and below the next entry; a leaf has none.
+/// An entry of a directory page: a name, the first sector of its file, and the page of the names above it and below the next entry; a leaf has none.
 #[derive(Clone, Copy, Debug, Default, PartialEq, Eq)]
 pub struct Entry {
     pub name: Name,
@@ -45,7 +45,7 @@ pub struct Entry {
     pub below: Option<Sector>,
 }
 
-// An entry as it is stored, not asked yet.
+/// An entry as it is stored, not asked yet.
 #[derive(Clone, Copy, Debug, Default, PartialEq, Eq)]
 pub struct StoredEntry {
     pub name: Name,
@@ -53,34 +53,34 @@ pub struct StoredEntry {
     pub below: Address,
 }
 
-// The fields of a directory page before its entries: their number, and the address of the page of the names below them all.
+/// The fields of a directory page before its entries: their number, and the address of the page of the names below them all.
 #[derive(Clone, Copy, Debug, PartialEq, Eq)]
 pub struct PageHead {
     pub count: u32,
     pub first: Address,
 }
 
-// Where a page stands in the directory: only the root may be less than half full.
+/// Where a page stands in the directory: only the root may be less than half full.
 #[derive(Clone, Copy, Debug, PartialEq, Eq)]
 pub enum PageKind {
     Root,
     Other,
 }
 
-// Why a sector is not a page of the directory.
+/// Why a sector is not a page of the directory.
 #[derive(Clone, Copy, Debug, PartialEq, Eq)]
 pub enum PageFault {
-    // the mark is not that of a page, or bytes 12 to 63 are not zero
+    /// the mark is not that of a page, or bytes 12 to 63 are not zero
     Mark,
-    // the count is out of range for a root
+    /// the count is out of range for a root
     RootCount,
-    // the count is out of range for a root with children
+    /// the count is out of range for a root with children
     ParentCount,
-    // the count is out of range for another page
+    /// the count is out of range for another page
     OtherCount,
-    // an entry's name is not a good one
+    /// an entry's name is not a good one
     BadName,
-    // an address is not as due
+    /// an address is not as due
     BadLink,
 }
 
@@ -101,7 +101,7 @@ impl fmt::Display for PageFault {
 
 impl Error for PageFault {}
 
-// Is every byte 0?
+/// Is every byte 0?
 fn is_zero(bytes: &[u8]) -> bool
     ensures { result ≡ every (λ b. nat_eq b 0) bytes.now }
 {
@@ -109,7 +109,7 @@ fn is_zero(bytes: &[u8]) -> bool
 }
 
 impl PageHead {
-    // The fields before the entries, asked for the mark and for the zeros behind them.
+    /// The fields before the entries, asked for the mark and for the zeros behind them.
     pub fn read(sector: &SectorBytes) -> Result<PageHead, PageFault>
         ensures { result ≡ head_in sector.now }
     {
@@ -122,14 +122,14 @@ impl PageHead {
         })
     }
 
-    // Is the page a leaf?
+    /// Is the page a leaf?
     pub fn is_leaf(&self) -> bool
         ensures { result ≡ is_leaf self.now }
     {
         self.first.is_none()
     }
 
-    // Is the number of entries in range for a page of this kind?
+    /// Is the number of entries in range for a page of this kind?
     pub fn check_count(&self, kind: PageKind) -> Result<(), PageFault>
         ensures { MatchResult result
             (λ _. count_fits kind (is_leaf self.now) self.now.count ≡ true)
@@ -149,7 +149,7 @@ impl PageHead {
     }
 }
 
-// The entry as it is stored.
+/// The entry as it is stored.
 impl From<Entry> for StoredEntry {
     ghost from_gives = { λ e s. s ≡ stored_form e };
 
@@ -185,14 +185,14 @@ impl Stored for StoredEntry {
 }
 
 impl StoredEntry {
-    // Entry `i` of a page as it is stored, of the 24 that a page has room for.
+    /// Entry `i` of a page as it is stored, of the 24 that a page has room for.
     pub fn read(sector: &SectorBytes, i: usize) -> Option<StoredEntry>
         ensures { MatchOption result (most_entries ≤ i) (λ e. (i < most_entries) × (e ≡ stored_in sector.now i)) }
     {
         (i < MOST_ENTRIES).then(|| StoredEntry::load(sector, ENTRIES_AT + ENTRY_SIZE * i))
     }
 
-    // The entry, asked for its name, then for its addresses.
+    /// The entry, asked for its name, then for its addresses.
     pub fn check(&self, leaf: bool, size: u16) -> Result<Entry, PageFault>
         ensures { result ≡ check_entry size leaf self.now }
     {

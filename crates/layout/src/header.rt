@@ -1,4 +1,4 @@
-// A file's first sector.
+//! A file's first sector.
 ghost use Rattle.std.specs.Prelude.{◌≡◌, ℕ, ◌+◌, ◌<◌, ◌≤◌, true, false, MatchOption, Some, slice_index};
 ghost use Rattle.numbers.specs.Lengths.{near_sectors, most_tables};
 ghost use Rattle.numbers.specs.Sectors.{due_from};
@@ -13,10 +13,10 @@ use numbers::sector::{Address, Sector};
 use std::error::Error;
 use std::fmt;
 
-// The mark of a file's first sector.
+/// The mark of a file's first sector.
 const FILE_MARK: u32 = 0x9BA71D86;
 
-// Where its fields stand.
+/// Where its fields stand.
 const MARK_AT: usize = 0;
 
 const NAME_AT: usize = 4;
@@ -31,34 +31,34 @@ const TABLES_AT: usize = 48;
 
 const SECTORS_AT: usize = 96;
 
-// The addresses there of extension tables, and of file sectors.
+/// The addresses there of extension tables, and of file sectors.
 pub const MOST_TABLES: usize = 12;
 
 pub const NEAR_ADDRESSES: usize = NEAR_SECTORS as usize;
 
-// The part of a file's first sector that stands before the data.
+/// The part of a file's first sector that stands before the data.
 #[derive(Clone, Copy, Debug, Default, PartialEq, Eq)]
 pub struct Header {
     pub name: Name,
     pub length: Length,
     pub date: u32,
-    // The addresses of the extension tables, and of file sectors 0 to 63; past the end they are 0.
+    /// The addresses of the extension tables, and of file sectors 0 to 63; past the end they are 0.
     pub tables: [Address; MOST_TABLES],
     pub sectors: [Address; NEAR_ADDRESSES],
 }
 
-// Why a sector is not the first one of a file.
+/// Why a sector is not the first one of a file.
 #[derive(Clone, Copy, Debug, PartialEq, Eq)]
 pub enum HeaderFault {
-    // the mark is not that of a first sector
+    /// the mark is not that of a first sector
     Mark,
-    // the last file sector and the bytes used there are not the end of a file
+    /// the last file sector and the bytes used there are not the end of a file
     End,
-    // an address is not as due
+    /// an address is not as due
     Link,
 }
 
-// Do the first `due` addresses lead to sectors, and are the others 0?
+/// Do the first `due` addresses lead to sectors, and are the others 0?
 fn are_as_due(list: &[Address], due: u32, size: u16) -> bool
     ensures { (from : ℕ) → result ≡ due_from size (due + from) from (numbers list.now) }
 {
@@ -82,7 +82,7 @@ impl fmt::Display for HeaderFault {
 impl Error for HeaderFault {}
 
 impl Header {
-    // The header of an empty file: its date is 0, and its first sector is all that it has.
+    /// The header of an empty file: its date is 0, and its first sector is all that it has.
     pub fn new(name: Name, own: Sector) -> Header
         ensures { result ≡ empty_header name own.0 }
     {
@@ -97,7 +97,7 @@ impl Header {
         }
     }
 
-    // The header of a sector, asked only for its mark and its end.
+    /// The header of a sector, asked only for its mark and its end.
     pub fn read(sector: &SectorBytes) -> Result<Header, HeaderFault>
         ensures { result ≡ read_header sector.now }
     {
@@ -116,7 +116,7 @@ impl Header {
         })
     }
 
-    // Are the addresses as due: sector address 0 the file's own, those up to the end to sectors of the disk, the others 0?
+    /// Are the addresses as due: sector address 0 the file's own, those up to the end to sectors of the disk, the others 0?
     pub fn has_due_links(&self, own: Sector, size: u16) -> bool
         ensures { result ≡ links_due own.0 size self.now }
     {
@@ -126,7 +126,7 @@ impl Header {
             && are_as_due(&self.tables, tables_of(last), size)
     }
 
-    // The header of the file whose first sector is `own`, on a disk of `size` sectors.
+    /// The header of the file whose first sector is `own`, on a disk of `size` sectors.
     pub fn decode(sector: &SectorBytes, own: Sector, size: u16) -> Result<Header, HeaderFault>
         ensures { result ≡ header_in own.0 size sector.now }
     {
@@ -137,7 +137,7 @@ impl Header {
         Ok(header)
     }
 
-    // Writes the header before the data of a first sector.
+    /// Writes the header before the data of a first sector.
     pub fn encode(&self, sector: &mut SectorBytes)
         ensures { sector.new ≡ written sector.old 0 (header_bytes self.now) }
     {
@@ -150,14 +150,14 @@ impl Header {
         self.sectors.store(sector, SECTORS_AT);
     }
 
-    // The address of file sector `i`, where the first sector has it.
+    /// The address of file sector `i`, where the first sector has it.
     pub fn sector(&self, i: usize) -> Option<Address>
         ensures { MatchOption result (near_sectors ≤ i) (λ a. (i < near_sectors) × (a.0 ≡ slice_index (numbers self.now.sectors) i)) }
     {
         self.sectors.get(i).copied()
     }
 
-    // The address of extension table `k`, of which there are at most twelve.
+    /// The address of extension table `k`, of which there are at most twelve.
     pub fn table(&self, k: usize) -> Option<Address>
         ensures { MatchOption result (most_tables ≤ k) (λ a. (k < most_tables) × (a.0 ≡ slice_index (numbers self.now.tables) k)) }
     {

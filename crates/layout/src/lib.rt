@@ -1,4 +1,4 @@
-// The sectors of a volume, byte by byte: stored numbers, first sectors of files, extension tables and directory pages.
+//! The sectors of a volume, byte by byte: stored numbers, first sectors of files, extension tables and directory pages.
 #![tactic(auto)]
 
 pub mod codec;

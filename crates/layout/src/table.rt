@@ -1,4 +1,4 @@
-// Extension tables.
+//! Extension tables.
 ghost use Rattle.std.specs.Prelude.{◌≡◌, ℕ, ◌+◌, ◌<◌, ◌≤◌, true, false, length, MatchOption, slice_index};
 ghost use Rattle.layout.specs.Words.{numbers};
 ghost use Rattle.numbers.specs.Lengths.{table_sectors};
@@ -8,17 +8,17 @@ use crate::word::{SECTOR_SIZE, SectorBytes, Stored};
 use numbers::length::{LAST_OF_LONGEST, NEAR_SECTORS, TABLE_SECTORS};
 use numbers::sector::Address;
 
-// The addresses in a table.
+/// The addresses in a table.
 pub const TABLE_ADDRESSES: usize = TABLE_SECTORS as usize;
 
-// An extension table: the addresses of 256 file sectors. Past the end of the file they are left free.
+/// An extension table: the addresses of 256 file sectors. Past the end of the file they are left free.
 #[derive(Clone, Copy, Debug, PartialEq, Eq)]
 pub struct Table {
     pub sectors: [Address; TABLE_ADDRESSES],
 }
 
 impl Table {
-    // The sector that holds the table.
+    /// The sector that holds the table.
     pub fn encode(&self) -> SectorBytes
         ensures { result ≡ table_bytes self.now }
     {
@@ -27,7 +27,7 @@ impl Table {
         sector
     }
 
-    // The table in a sector: every sector has the form of one.
+    /// The table in a sector: every sector has the form of one.
     pub fn decode(sector: &SectorBytes) -> Table
         ensures { result ≡ table_in sector.now }
     {
@@ -36,7 +36,7 @@ impl Table {
         }
     }
 
-    // Entry `j` of the table.
+    /// Entry `j` of the table.
     pub fn sector(&self, j: usize) -> Option<Address>
         ensures { MatchOption result (table_sectors ≤ j) (λ a. (j < table_sectors) × (a.0 ≡ slice_index (numbers self.now.sectors) j)) }
     {
@@ -44,7 +44,7 @@ impl Table {
     }
 }
 
-// The extension table that has the address of file sector `i`, and its entry there; none has those that stand in the first sector.
+/// The extension table that has the address of file sector `i`, and its entry there; none has those that stand in the first sector.
 pub fn table_place(i: u32) -> Option<(usize, usize)>
     ensures { MatchOption result (in_table i ≡ false) (λ p. (in_table i ≡ true) × (p.0 ≡ (table_place i).0) × (p.1 ≡ (table_place i).1)) }
 {

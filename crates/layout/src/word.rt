@@ -1,4 +1,4 @@
-// Values stored in a sector.
+//! Values stored in a sector.
 ghost use Rattle.std.specs.Prelude.{◌≡◌, ℕ, ◌+◌, ◌*◌, ◌<◌, ◌≤◌, List, [], ◌∷◌, length, MatchOption, MatchResult, Some, codes};
 ghost use Rattle.numbers.specs.Names.{name_size};
 ghost use Rattle.layout.specs.Words.{Contents, blank, word, stored, stored_all, part, written, sector_size, word_size, numbers, addresses_in};
@@ -9,37 +9,37 @@ use numbers::sector::Address;
 use std::error::Error;
 use std::{array, fmt};
 
-// The bytes of a sector, and of a stored number.
+/// The bytes of a sector, and of a stored number.
 pub const SECTOR_SIZE: usize = length::SECTOR_SIZE as usize;
 
 pub(crate) const WORD_SIZE: usize = 4;
 
-// The bytes of one sector.
+/// The bytes of one sector.
 pub type SectorBytes = [u8; SECTOR_SIZE];
 
-// A new sector, every byte 0.
+/// A new sector, every byte 0.
 pub fn blank_sector() -> SectorBytes
     ensures { result ≡ blank }
 {
     [0u8; SECTOR_SIZE]
 }
 
-// A value that stands in a sector: so many bytes from some byte on.
+/// A value that stands in a sector: so many bytes from some byte on.
 pub(crate) trait Stored: Sized {
-    // the number of its bytes, the bytes of a value, and the value that stands from a byte on
+    /// the number of its bytes, the bytes of a value, and the value that stands from a byte on
     ghost size: { ℕ };
 
     ghost bytes: { Self → List ℕ };
 
     ghost standing: { Contents → ℕ → Self };
 
-    // Writes the value from byte `at` on, and no other byte.
+    /// Writes the value from byte `at` on, and no other byte.
     fn store(&self, sector: &mut SectorBytes, at: usize)
         requires { at + size ≤ sector_size }
         ensures after { sector.new ≡ written sector.old at (bytes self.now) }
         ensures long { length (bytes self.now) ≡ size };
 
-    // Reads the value from byte `at` on.
+    /// Reads the value from byte `at` on.
     fn load(sector: &SectorBytes, at: usize) -> Self
         requires { at + size ≤ sector_size }
         ensures { result ≡ standing sector.now at };
@@ -63,7 +63,7 @@ impl<const N: usize> Stored for [u8; N] {
     }
 }
 
-// Least byte first.
+/// Least byte first.
 impl Stored for u32 {
     ghost size = { word_size };
 
@@ -132,7 +132,7 @@ impl<const N: usize> Stored for [Address; N] {
     }
 }
 
-// The offset leaves no room for a number in the sector.
+/// The offset leaves no room for a number in the sector.
 #[derive(Clone, Copy, Debug, PartialEq, Eq)]
 pub struct OutOfSector;
 
@@ -146,7 +146,7 @@ impl fmt::Display for OutOfSector {
 
 impl Error for OutOfSector {}
 
-// Writes a number from byte `at` on, and no other byte. A refusal changes nothing.
+/// Writes a number from byte `at` on, and no other byte. A refusal changes nothing.
 pub fn put_word(sector: &mut SectorBytes, at: usize, value: u32) -> Result<(), OutOfSector>
     ensures { MatchResult result
         (λ _. (at + word_size ≤ sector_size) × (sector.new ≡ written sector.old at (stored value)))
@@ -159,7 +159,7 @@ pub fn put_word(sector: &mut SectorBytes, at: usize, value: u32) -> Result<(), O
     Ok(())
 }
 
-// Reads the number from byte `at` on, where its four bytes lie in the sector.
+/// Reads the number from byte `at` on, where its four bytes lie in the sector.
 pub fn get_word(sector: &SectorBytes, at: usize) -> Option<u32>
     ensures { MatchOption result (sector_size < at + word_size) (λ v. (at + word_size ≤ sector_size) × (v ≡ word sector.now at)) }
 {

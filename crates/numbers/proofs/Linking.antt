@@ -1,6 +1,7 @@
 -- Addresses and the sectors that they lead to.
-use Rattle.std.proofs.Common.{◌≡◌, ℕ, ◌/◌, ◌<◌, ◌≤◌, Bool, true, false, cond, Some, None, refl, ap, ◌∙◌, subst, arith}
+use Rattle.std.proofs.Common.{◌≡◌, ℕ, ◌/◌, ◌<◌, ◌≤◌, Bool, true, cond, Some, None, ap, ◌∙◌, subst, arith}
 use Rattle.std.proofs.lemmas.Bool.Decides.{nat_tests}
+use Rattle.std.proofs.lemmas.Bool.{true_from_ne_false}
 use Rattle.numbers.specs.declared.sector.Sector.{Sector}
 use Rattle.numbers.specs.Sectors.{address, leads, sector_at, first_linked, address_step, Addresses}
 
@@ -11,13 +12,10 @@ pub leads-from : (size n : ℕ) → first_linked ≤ n → n < size → leads si
 leads-from size n l h = grind (arith, nat_tests)
 
 leads-to : (size w : ℕ) (s : Sector) → sector_at size w ≡ Some s → (w ≡ address s.0) × (first_linked ≤ s.0) × (s.0 < size)
-leads-to size w s e = go (leads size w) refl e
-  where
-    go : (b : Bool) → leads size w ≡ b → cond b (Some (record { 0 = w / address_step })) None ≡ Some s → (w ≡ address s.0) × (first_linked ≤ s.0) × (s.0 < size)
-    go true l e =
-        let f : record { 0 = w / address_step } ≡ s = cc in
-        subst (λ (t : Sector). (w ≡ address t.0) × (first_linked ≤ t.0) × (t.0 < size)) f (leads-says size w l)
-    go false l e = cc
+leads-to size w s e =
+    let l : leads size w ≡ true = true_from_ne_false (leads size w) (λ f. cc) in
+    let f : record { 0 = w / address_step } ≡ s = cc in
+    subst (λ (t : Sector). (w ≡ address t.0) × (first_linked ≤ t.0) × (t.0 < size)) f (leads-says size w l)
 
 pub led-to : (size : ℕ) (s : Sector) → first_linked ≤ s.0 → s.0 < size → sector_at size (address s.0) ≡ Some s
 led-to size s l h =

@@ -1,12 +1,13 @@
 -- Names and the fields that hold them.
-use Rattle.std.proofs.Common.{◌≡◌, ℕ, zero, suc, ◌+◌, ◌-◌, ◌≤◌, Bool, true, false, ◌&&◌, leb, eqb, ltb, cond, Some, None, List, [], ◌∷◌, ◌++◌, length, get_or, take, drop, replicate, sym, refl, ap, ◌∙◌, ap₂, arith}
+use Rattle.std.proofs.Common.{◌≡◌, ℕ, zero, suc, ◌+◌, ◌-◌, ◌≤◌, true, false, ◌&&◌, leb, eqb, Some, None, List, [], ◌∷◌, ◌++◌, length, get_or, take, drop, replicate, sym, refl, ap, ◌∙◌, ap₂, arith}
 use Rattle.std.specs.Str.{bytes_eq}
 use Rattle.std.proofs.lemmas.Slice.Eq.{bytes_eq-Decides}
 use Rattle.std.specs.List.{position, position_or_len}
 use Rattle.std.proofs.Math.Bool.{and-true}
-use Rattle.std.proofs.lemmas.List.{take_all, drop-replicate, length-append, length-replicate}
+use Rattle.std.proofs.lemmas.List.{take_all, drop-replicate}
+use Rattle.std.proofs.lemmas.Grind.{common_steps}
 use Rattle.std.proofs.lemmas.Bool.Decides.{nat_tests}
-use Rattle.std.proofs.lemmas.Bool.{and_parts, and_from, le-leb, ltb-false, ne_eqb}
+use Rattle.std.proofs.lemmas.Bool.{and_parts, and_from, le-leb, ne_eqb}
 use Rattle.numbers.specs.Names.{Key, longest_name, name_size, letter, letter_digit_dot, every, good_name, name_field, name_in, is_name_field, NameFields}
 
 -- GOOD NAMES
@@ -30,18 +31,10 @@ name-front (suc b ∷ bs) =
     rw (e, s) (ap (λ (t : List ℕ). suc b ∷ t) (name-front bs))
 
 pub front-found : (f : List ℕ) (n : ℕ) → position (λ b. eqb b 0) f ≡ Some n → take n f ≡ name_in f
-front-found f n e = ap (λ (k : ℕ). take k f) (at (ltb (position_or_len (λ b. eqb b 0) f) (length f)) e) ∙ name-front f
-  where
-    at : (b : Bool) → cond b (Some (position_or_len (λ b. eqb b 0) f)) None ≡ Some n → n ≡ position_or_len (λ b. eqb b 0) f
-    at true e = cc
-    at false e = cc
+front-found f n e = let p : n ≡ position_or_len (λ b. eqb b 0) f = grind (arith, common_steps) in ap (λ (k : ℕ). take k f) p ∙ name-front f
 
 pub front-whole : (f : List ℕ) → position (λ b. eqb b 0) f ≡ None → f ≡ name_in f
-front-whole f e = sym (take_all (position_or_len (λ b. eqb b 0) f) f (past (ltb (position_or_len (λ b. eqb b 0) f) (length f)) refl e)) ∙ name-front f
-  where
-    past : (b : Bool) → ltb (position_or_len (λ b. eqb b 0) f) (length f) ≡ b → cond b (Some (position_or_len (λ b. eqb b 0) f)) None ≡ None → length f ≤ position_or_len (λ b. eqb b 0) f
-    past true h e = cc
-    past false h e = ltb-false (position_or_len (λ b. eqb b 0) f) (length f) h
+front-whole f e = sym (take_all (position_or_len (λ b. eqb b 0) f) f (grind (arith, common_steps))) ∙ name-front f
 
 -- a text put at the front of zeros
 pub zero-filled : (t ys : List ℕ) → ys ≡ t → ys ++ drop (length t) (replicate name_size 0) ≡ name_field t
@@ -65,7 +58,7 @@ pub found : (k : Key) → good_name k ≡ true → name_in (name_field k) ≡ k
 found k h = back-again k (name_size - length k) (good-every k h)
 
 pub sized : (k : Key) → good_name k ≡ true → length (name_field k) ≡ name_size
-sized k h = length-append k (replicate (name_size - length k) 0) ∙ ap (λ (n : ℕ). length k + n) (length-replicate (name_size - length k) 0) ∙ omega (arith, good_length k h)
+sized k h = grind (arith, common_steps, good_length k h)
 
 pub formed : (k : Key) → good_name k ≡ true → is_name_field (name_field k) ≡ true
 formed k h =

@@ -1,7 +1,7 @@
 -- The order of names.
 use Rattle.std.proofs.Common.{◌≡◌, ℕ, zero, suc, ◌+◌, ◌-◌, ◌<◌, true, List, [], ◌∷◌, ◌++◌, length, replicate, sym, refl, ap, ◌∙◌, subst, ap₂, arith}
 use Rattle.std.proofs.lemmas.Bool.{and_parts}
-use Rattle.std.proofs.lemmas.Cmp.{ranked, by_ranked, nat_list_cmp_total}
+use Rattle.std.proofs.lemmas.Cmp.{ranked, by_ranked, nat_cmp_total, nat_list_cmp_total}
 use Rattle.std.proofs.lemmas.Map.Lookups.{exact_bytes}
 use Rattle.std.specs.Ordering.{nat_cmp, ordering_reverse}
 use Rattle.std.specs.Cmp.Lexicographic.{slice_cmp}
@@ -26,14 +26,6 @@ itselfℕ : (n : ℕ) → cmpℕ n n ≡ same
 itselfℕ zero = refl
 itselfℕ (suc n) = itselfℕ n
 
-pub transℕ : (a b c : ℕ) → cmpℕ a b ≡ below → cmpℕ b c ≡ below → cmpℕ a c ≡ below
-transℕ zero zero c e f = cc
-transℕ zero (suc b) zero e f = cc
-transℕ zero (suc b) (suc c) e f = refl
-transℕ (suc a) zero c e f = cc
-transℕ (suc a) (suc b) zero e f = cc
-transℕ (suc a) (suc b) (suc c) e f = transℕ a b c e f
-
 pub lessℕ : (m n : ℕ) → m < n → cmpℕ m n ≡ below
 lessℕ zero zero h = absurd (omega arith)
 lessℕ zero (suc n) h = refl
@@ -49,6 +41,9 @@ byte-cmp : (x y : ℕ) → nat_cmp x y ≡ cmpℕ x y
 byte-cmp x y =
     by_ranked (x < y) (x ≡ y) (y < x) (nat_cmp x y) (ranked x y (nat_cmp x y) refl) (λ e h. e ∙ sym (lessℕ x y h))
     (λ e h. e ∙ sym (subst (λ (n : ℕ). cmpℕ x n ≡ same) h (itselfℕ x))) (λ e h. e ∙ sym (moreℕ x y h))
+
+pub transℕ : (a b c : ℕ) → cmpℕ a b ≡ below → cmpℕ b c ≡ below → cmpℕ a c ≡ below
+transℕ a b c e f = sym (byte-cmp a c) ∙ nat_cmp_total.trans a b c (byte-cmp a b ∙ e) (byte-cmp b c ∙ f)
 
 pub type-order : (a b : Key) → slice_cmp nat_cmp a b ≡ cmp a b
 type-order [] [] = refl

@@ -1,4 +1,4 @@
-// What the fields of a volume's sectors hold: sector numbers and addresses, names and their order, lengths.
+//! What the fields of a volume's sectors hold: sector numbers and addresses, names and their order, lengths.
 #![tactic(auto)]
 
 pub mod laws;

@@ -1,7 +1,9 @@
 -- Every pile over a blank image is one that a plan can start from.
-use Rattle.std.proofs.Common.{◌≡◌, ℕ, zero, suc, ◌+◌, ◌-◌, ◌*◌, ◌%◌, List, [], ◌∷◌, Ok, Err, Result, map, length, take, drop, replicate, sym, refl, ap, ◌∙◌, subst, inl, inr, arith}
+use Rattle.std.proofs.Common.{◌≡◌, ℕ, ◌+◌, ◌-◌, ◌*◌, ◌≤◌, List, [], Ok, Err, Result, length, replicate, refl, ap, ◌∙◌, arith}
+use Rattle.std.proofs.lemmas.List.{take-replicate, drop-replicate, length-replicate}
 use Rattle.std.specs.Result.{IfOk}
-use Rattle.disk.specs.Meaning.{Contents, Meaning, In}
+use Rattle.disk.specs.Meaning.{Meaning}
+use Rattle.disk.proofs.Images.{only}
 use Rattle.disk.specs.Sectors.{sector, over}
 use Rattle.layers.specs.declared.fuse.FuseState.{FuseState}
 use Rattle.layers.specs.declared.fuse.FuseState.TheVariants.{Counting}
@@ -13,65 +15,25 @@ use Rattle.plan.specs.Plans.{blank}
 use Rattle.powerstop.specs.Tries.{Clean}
 use Rattle.trial.specs.declared.stop.Report.{Report}
 
-zeros : ℕ → List ℕ
-zeros n = replicate n 0
-
-drop-zeros : (k n : ℕ) → drop k (zeros (k + n)) ≡ zeros n
-unfolding zeros
-drop-zeros zero n = ap zeros (let e : zero + n ≡ n = omega arith in e)
-drop-zeros (suc k) n = ap (λ j. drop (suc k) (zeros j)) (let e : suc k + n ≡ suc (k + n) = omega arith in e) ∙ drop-zeros k n
-
-take-zeros : (k n : ℕ) → take k (zeros (k + n)) ≡ zeros k
-unfolding zeros
-take-zeros zero n = refl
-take-zeros (suc k) n = ap (λ j. take (suc k) (zeros j)) (let e : suc k + n ≡ suc (k + n) = omega arith in e) ∙ ap (λ t. 0 ∷ t) (take-zeros k n)
-
-low_zeros : (k : ℕ) → map (λ b. b % 256) (zeros k) ≡ zeros k
-unfolding zeros
-low_zeros zero = refl
-low_zeros (suc k) = ap (λ t. 0 ∷ t) (low_zeros k)
-
-length-zeros : (n : ℕ) → length (zeros n) ≡ n
-unfolding zeros
-length-zeros zero = refl
-length-zeros (suc n) = ap suc (length-zeros n)
-
--- n − (1024 × k + 1024) zeros follow sector k
-blank-sector : (n k rest : ℕ) → n ≡ 1024 * k + (1024 + rest) → sector (zeros n) k ≡ zeros 1024
-unfolding sector
-blank-sector n k rest e =
-    ap (λ j. map (λ b. b % 256) (take 1024 (drop (1024 * k) (zeros j)))) e
-    ∙ (ap (λ l. map (λ b. b % 256) (take 1024 l)) (drop-zeros (1024 * k) (1024 + rest))
-    ∙ (ap (map (λ b. b % 256)) (take-zeros 1024 rest) ∙ low_zeros 1024))
-
-is-blank : zeros 1024 ≡ blank
-unfolding zeros blank
-is-blank = refl
-
-only : {x y : Contents} → In x (y ∷ []) → x ≡ y
-only (inl e) = e
-only (inr h) = absurd h
-
-over_zeros : (bytes : List ℕ) (n : ℕ) → bytes ≡ zeros n → Clean (over bytes)
-over_zeros bytes n e = record {
-  fresh = record { live = refl; settled = λ k x lt i. only i };
-  blank = λ k lt.
-      let l = ap length e ∙ length-zeros n in
-      ap (λ b. sector b k) e ∙ (blank-sector n k (n - (1024 * k + 1024)) (omega arith) ∙ is-blank);
-}
+-- a sector that ends within n zeros is blank
+blank-sector : (n k : ℕ) → 1024 * k + 1024 ≤ n → sector (replicate n 0) k ≡ blank
+unfolding sector blank
+blank-sector n k h = rw (drop-replicate {X = ℕ} (1024 * k) n 0, take-replicate {X = ℕ} 1024 (n - 1024 * k) 0 (omega arith)) refl
 
 pub clean-over : (bytes : List ℕ) (n : ℕ) → bytes ≡ replicate n 0 → Clean (over bytes)
-unfolding zeros
-clean-over bytes n e = over_zeros bytes n e
+clean-over bytes n e = record {
+  fresh = record { live = refl; settled = λ k x lt i. only i };
+  blank = λ k lt. ap (λ b. sector b k) e ∙ blank-sector n k (let l = ap length e ∙ length-replicate {A = ℕ} n 0 in omega arith);
+}
 
 pub clean-fused : (m : Meaning) (s : FuseState) (k : ℕ) → s ≡ Counting k → Clean m → Clean (fused s m)
-clean-fused m s k is c = subst (λ t. Clean (fused t m)) (sym is) (record {
+clean-fused m s k is c = rw is (record {
   fresh = record { live = c.fresh.live; settled = c.fresh.settled };
   blank = c.blank;
 })
 
 pub clean-held : (m : Meaning) (s : List Kept) → s ≡ [] → Clean m → Clean (held (at s) m)
-clean-held m s is c = subst (λ l. Clean (held (at l) m)) (sym is) (record {
+clean-held m s is c = rw is (record {
   fresh = record { live = c.fresh.live; settled = c.fresh.settled };
   blank = c.blank;
 })

@@ -12,7 +12,7 @@ use std::alloc::Global;
 use std::io::{BufRead, BufReader, Stdin};
 
 /// The power stops so far, and how many of them left something that the plan does not allow.
-#[derive(Clone, Copy, Default)]
+#[derive(Clone, Copy, Debug, Default, PartialEq, Eq)]
 struct Tally {
     stops: usize,
     wrong: usize,
@@ -52,7 +52,7 @@ fn try_all(
     steps: &[Step],
     tally: &mut Tally,
 ) -> anyhow::Result<()> {
-    for passes in 0..steps.len().saturating_add(1) {
+    for passes in 0..=steps.len() {
         let mut line = String::new(rt.alloc());
         let setup = Setup { pile, passes };
         let report = try_pile(rt.alloc(), setup, size, steps, &mut line)?;

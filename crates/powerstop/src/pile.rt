@@ -3,8 +3,8 @@ ghost use Rattle.powerstop.specs.Tries.{Truthful, NothingWrong, NothingWrongFrom
 
 use crate::report::{Stopped, show_sectors};
 use anyhow::Context;
-use disk::Disk;
 use disk::image::Image;
+use disk::{Disk, SECTOR_SIZE};
 use layers::fuse::Fuse;
 use layers::hold::Hold;
 use plan::step::Step;
@@ -49,6 +49,7 @@ impl fmt::Display for Pile {
 }
 
 /// A pile, and the number of puts that its fuse lets through, if it has one.
+// a number for each pile: one without a fuse ends its first run, and is tried no further
 #[derive(Clone, Copy)]
 pub(crate) struct Setup {
     pub(crate) pile: Pile,
@@ -74,6 +75,7 @@ fn try_disk<D: Disk + Drop>(
     ensures ran { Truthful D.Disk.meaning D.Disk.does disk steps.now result }
     ensures clean { NothingWrongFrom (D.Disk.meaning disk) result }
 {
+    // the disk's own fault goes, so that what is printed stays one line
     let report = power_stop(&mut disk, steps)
         .ok()
         .context("the disk is gone after the power stop")?;
@@ -119,7 +121,9 @@ pub(crate) fn try_pile(
     ensures ran { Tried setup.passes (replicate (1024 * size) 0) steps.now setup.pile result }
     ensures clean { NothingWrong result }
 {
-    let length = size.checked_mul(1024).context("the disk is too large")?;
+    let length = size
+        .checked_mul(SECTOR_SIZE)
+        .context("the disk is too large")?;
     let mut bytes = vec![in heap; 0u8; length]?;
     write!(line, "{setup},")?;
     try_over(setup, &mut bytes, steps, line)

@@ -1,5 +1,5 @@
 use anyhow::Context;
-use disk::Disk;
+use disk::{Disk, SECTOR_SIZE, SectorBytes};
 use plan::step::Step;
 use std::fmt;
 use trial::ending::Ending;
@@ -41,7 +41,7 @@ impl fmt::Display for Stopped<'_> {
 
 /// The text of a sector, up to its first zero.
 #[derive(Clone, Copy)]
-struct Text<'a>(&'a [u8; 1024]);
+struct Text<'a>(&'a SectorBytes);
 
 impl fmt::Display for Text<'_> {
     fn fmt<W: fmt::Write>(&self, f: &mut fmt::Formatter<W>) -> fmt::Result {
@@ -67,7 +67,7 @@ pub(crate) fn show_sectors<D: Disk>(
 ) -> anyhow::Result<()> {
     for k in 0..disk.size() {
         if steps.iter().any(|step| names(step, k)) {
-            let mut bytes = [0u8; 1024];
+            let mut bytes = [0u8; SECTOR_SIZE];
             disk.get(k, &mut bytes)
                 .ok()
                 .context("the disk is gone after its restart")?;

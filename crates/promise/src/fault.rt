@@ -29,7 +29,7 @@ pub enum FileFault {
 
 impl FileFault {
     /// The number of the question that was answered with no.
-    // a number, since every call is to answer by one; within the program the refusal is the enum
+    // a number, since the store's calls answer a refusal by its number; within the program it is the enum
     pub fn number(self) -> u8
         ensures { result ≡ number_of self }
     {

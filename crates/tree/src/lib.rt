@@ -1,4 +1,4 @@
-// The laws of the directory tree, for any order of names, each stated by the contract of a function.
+//! The laws of the directory tree, for any order of names, each stated by the contract of a function.
 #![tactic(auto)]
 
 ghost use Rattle.tree.specs.Laws.{AnyOrder, Shares, LookupFinds, EmptyGood};
@@ -9,13 +9,13 @@ ghost use Rattle.tree.specs.StoredExamples.{StoredExamples};
 ghost use Rattle.tree.specs.Laws.{InsertPuts, InsertKeeps, InsertLevels, InsertWithin, InsertRises, InsertGains, InsertPath, InsertSix, InsertChanges, InsertAgain};
 ghost use Rattle.tree.specs.Laws.{DeleteTakes, DeleteKeeps, DeleteLoses, DeleteMost, DeleteChanges};
 
-// The tree of a new directory is good, and a search finds what the entries in order have.
+/// The tree of a new directory is good, and a search finds what the entries in order have.
 pub fn lookup_stands<K>()
     ensures begins { AnyOrder K EmptyGood }
     ensures finds { AnyOrder K LookupFinds }
 {}
 
-// An insert: the entries, the pages and the levels.
+/// An insert: the entries, the pages and the levels.
 pub fn insert_stands<K>()
     ensures puts { AnyOrder K InsertPuts }
     ensures keeps { AnyOrder K InsertKeeps }
@@ -27,7 +27,7 @@ pub fn insert_stands<K>()
     ensures six { AnyOrder K InsertSix }
 {}
 
-// A delete: the entries and the pages.
+/// A delete: the entries and the pages.
 pub fn delete_stands<K>()
     ensures takes { AnyOrder K DeleteTakes }
     ensures keeps { AnyOrder K DeleteKeeps }
@@ -35,20 +35,20 @@ pub fn delete_stands<K>()
     ensures most { AnyOrder K DeleteMost }
 {}
 
-// The changed pages, by their definition, are those that insert and delete count.
+/// The changed pages, by their definition, are those that insert and delete count.
 pub fn changes_stand<K>()
     ensures insert { AnyOrder K InsertChanges }
     ensures again { AnyOrder K InsertAgain }
     ensures delete { AnyOrder K DeleteChanges }
 {}
 
-// How two neighbours share their entries, whatever hangs below them.
+/// How two neighbours share their entries, whatever hangs below them.
 pub fn shares_stand<K, S>()
     ensures { Shares K S }
 {}
 
-// A tree in sectors: search, and an insert and a delete that write the changed pages to free sectors and the root to its own.
-// The sectors set free are those of the old pages that the new tree has no more.
+/// A tree in sectors: search, and an insert and a delete that write the changed pages to free sectors and the root to its own.
+/// The sectors set free are those of the old pages that the new tree has no more.
 pub fn stored_stands<K>()
     ensures seeks { AnyCompare K SeekLooks }
     ensures inserts { AnyCompare K InsertStores }
@@ -64,7 +64,7 @@ pub fn stored_stands<K>()
     ensures delete_balances { AnyOrder K DeleteBalances }
 {}
 
-// Worked examples, and good trees in which an insert changes six pages and a delete four.
+/// Worked examples, and good trees in which an insert changes six pages and a delete four.
 pub fn examples_stand()
     ensures worked { Examples }
     ensures reached { Reached }

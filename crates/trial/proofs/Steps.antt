@@ -1,5 +1,5 @@
 -- One step more of a plan: what a disk may leave stays within what the plan allows.
-use Rattle.std.proofs.Common.{◌≡◌, ℕ, ◌+◌, ◌<◌, Bool, true, false, cond, eqb, List, [], ◌∷◌, ◌++◌, length, get_or, take, Ok, Err, sym, refl, ap, ◌∙◌, subst, inl, inr, ⊎_elim}
+use Rattle.std.proofs.Common.{◌≡◌, ℕ, ◌+◌, ◌<◌, Bool, true, false, cond, eqb, List, [], ◌∷◌, ◌++◌, length, get_or, take, Ok, Err, sym, refl, arith, ap, ◌∙◌, subst, inl, inr, ⊎_elim}
 use Rattle.std.proofs.lemmas.List.{take_more}
 use Rattle.std.proofs.lemmas.Bool.{eq-eqb, ne_eqb, cases_eq}
 use Rattle.disk.specs.declared.fault.DiskFault.{DiskFault}
@@ -22,7 +22,7 @@ newest-twice [] = refl
 newest-twice (x ∷ xs) = refl
 
 add-here : (n k : ℕ) (x y : Contents) (xs : List Contents) → k ≡ n → y ≡ x → In y (cond (eqb n k) (x ∷ xs) xs)
-add-here n k x y xs e f = subst (λ b. In y (cond b (x ∷ xs) xs)) (sym (eq-eqb n k (sym e))) (inl f)
+add-here n k x y xs e f = rw (eq-eqb n k (sym e)) (inl f)
 
 add-wider : (b : Bool) (x y : Contents) (xs : List Contents) → In y xs → In y (cond b (x ∷ xs) xs)
 add-wider true x y xs i = inr i
@@ -48,13 +48,13 @@ kept-none m s = record {
 
 module _ (m₀ m m' : Meaning) (ss : List Step) (kept : Kept m₀ ss m) where
   inside : {k : ℕ} → k < m₀.size → k < m.size
-  inside {k} lt = subst (λ z. k < z) (sym kept.size) lt
+  inside {k} lt = omega arith
 
   allowed : ℕ → List Contents
   allowed k = leaves k (m₀.shown k ∷ []) ss
 
-  -- a put, accepted or not
-  put-allows : (n : ℕ) (x : Contents) (r : Answer) → Puts m n x r m' → Fresh m₀ → Allows m₀ (ss ++ (Put n x ∷ [])) m'
+  -- a put, accepted or not: refused, it may have come down
+  pub put-allows : (n : ℕ) (x : Contents) (r : Answer) → Puts m n x r m' → Fresh m₀ → Allows m₀ (ss ++ (Put n x ∷ [])) m'
   unfolding allowed
   put-allows n x r p fresh k y lt i =
       subst (In y) (sym (leaves-more k (m₀.shown k ∷ []) ss (Put n x)))
@@ -92,7 +92,7 @@ module _ (m₀ m m' : Meaning) (ss : List Step) (kept : Kept m₀ ss m) where
     sound = p.sound;
     calm = λ c. p.calm.stays (kept.calm c);
     allows = λ fresh k y lt i.
-        let lt' = subst (λ z. k < z) (sym p.size) (inside lt) in
+        let lt' : k < m'.size = omega arith in
         let is = p.answer.settled k y lt' i ∙ p.shows k (inside lt) in
         subst (In y) (sym (leaves-more k (m₀.shown k ∷ []) ss Settle)) (subst (In y) (sym (kept.shows fresh k lt)) (inl is));
     shows = λ fresh k lt.
@@ -104,10 +104,7 @@ module _ (m₀ m m' : Meaning) (ss : List Step) (kept : Kept m₀ ss m) where
   kept_more (Put n x) p = kept_put n x p
   kept_more Settle p = kept-settle p
 
-  -- a refused step: its put may have come down, its settle counts for nothing
-  pub refused-put : (n : ℕ) (x : Contents) (f : DiskFault) → Puts m n x (Err f) m' → Fresh m₀ → Allows m₀ (ss ++ (Put n x ∷ [])) m'
-  refused-put n x f = put-allows n x (Err f)
-
+  -- a refused settle counts for nothing
   pub refused-settle : (f : DiskFault) → Settles m (Err f) m' → Fresh m₀ → Allows m₀ ss m'
   refused-settle f p fresh k y lt i = kept.allows fresh k y lt (p.fewer k y (inside lt) i)
 
@@ -119,7 +116,7 @@ module _ (m₀ m m' : Meaning) (ss : List Step) (i : ℕ) (f : DiskFault) (lt : 
     calm = λ c. p.calm.stays (kept.calm c);
     allows = λ fresh.
         let e = ap (λ b. take (cond b (i + 1) i) ss) (ap is_put is) ∙ (take_more ss i Settle lt ∙ ap (λ s. take i ss ++ (s ∷ [])) is) in
-        subst (λ l. Allows m₀ l m') (sym e) (refused-put m₀ m m' (take i ss) kept n x f p fresh);
+        subst (λ l. Allows m₀ l m') (sym e) (put-allows m₀ m m' (take i ss) kept n x (Err f) p fresh);
   }
   stopped-at Settle is p = record {
     size = p.size ∙ kept.size;

@@ -1,5 +1,5 @@
 -- A look at all sectors, one after the other, and what it finds after a restart.
-use Rattle.std.proofs.Common.{◌≡◌, ℕ, zero, suc, ◌+◌, ◌<◌, ◌≤◌, Bool, true, false, cond, List, [], ◌∷◌, take, is_ok, IsErrAnd, Ok, Err, Result, sym, refl, ap, ◌∙◌, subst, inl, inr, arith}
+use Rattle.std.proofs.Common.{◌≡◌, ℕ, zero, suc, ◌+◌, ◌<◌, ◌≤◌, Bool, true, false, cond, List, [], ◌∷◌, take, IsErrAnd, Ok, Err, Result, sym, refl, ap, ◌∙◌, subst, arith}
 use Rattle.std.proofs.lemmas.Result.{err_from_is_err_and}
 use Rattle.std.proofs.lemmas.Bool.{both_ways}
 use Rattle.disk.specs.declared.fault.DiskFault.{DiskFault}
@@ -8,7 +8,6 @@ use Rattle.disk.specs.Rules.{Answer, Request, Shows, Fewer, Restarts}
 use Rattle.disk.specs.Rules.Request.{restarting}
 use Rattle.plan.specs.Plans.{blank}
 use Rattle.plan.specs.declared.step.Step.{Step}
-use Rattle.trial.specs.declared.stop.Report.{Report}
 use Rattle.trial.specs.Endings.{Ending, reach}
 use Rattle.trial.specs.Leaves.{leaves, among, failing}
 use Rattle.trial.specs.Runs.{Ended, Ran}
@@ -22,7 +21,7 @@ passes m ss k = among (m.shown k) (leaves k (blank ∷ []) ss)
 failing-same : (n : ℕ) (f g : ℕ → Bool) → ((k : ℕ) → k < n → f k ≡ g k) → failing n f ≡ failing n g
 failing-same zero f g h = refl
 failing-same (suc n) f g h =
-    ap (λ a. a + cond (f n) 0 1) (failing-same n f g (λ k lt. h k (omega arith))) ∙ ap (λ b. failing n g + cond b 0 1) (h n (omega arith))
+    rw (failing-same n f g (λ k lt. h k (omega arith)), h n (omega arith))
 
 -- the first k sectors were looked at, and these many are wrong
 pub record Looked (m₀ : Meaning) (ss : List Step) (k w : ℕ) (m : Meaning) : Type 0 where
@@ -41,7 +40,7 @@ more-few false w k h = omega arith
 
 module _ (m₀ m m' : Meaning) (ss : List Step) (k w : ℕ) (lt : k < m₀.size) (h : Looked m₀ ss k w m) where
   inside : {j : ℕ} → j < m₀.size → j < m.size
-  inside {j} l = subst (λ z. j < z) (sym h.size) l
+  inside {j} l = omega arith
 
   pub looked-more : (b : Bool) (w' : ℕ) → Looks m ss k (Ok b) m' → w' ≡ w + cond b 0 1 → Looked m₀ ss (k + 1) w' m'
   looked-more b w' p is = record {
@@ -54,7 +53,7 @@ module _ (m₀ m m' : Meaning) (ss : List Step) (k w : ℕ) (lt : k < m₀.size)
     counts =
         is ∙ (ap (λ a. a + cond b 0 1) h.counts
         ∙ sym (failing-more k (passes m₀ ss) b (sym (p.answer.1 ∙ ap (λ x. among x (leaves k (blank ∷ []) ss)) (h.shows k lt)))));
-    few = subst (λ a. a ≤ k + 1) (sym is) (more-few b w k h.few);
+    few = rw is (more-few b w k h.few);
   }
 
   refused : (f : DiskFault) → Looks m ss k (Err f) m' → Counts m₀ ss (Err f) m'
@@ -71,7 +70,7 @@ module _ (m₀ m m' : Meaning) (ss : List Step) (k w : ℕ) (lt : k < m₀.size)
   pub counts-err : (r : Result ℕ DiskFault) (f : DiskFault) → IsErrAnd r (λ e. e ≡ f) → Looks m ss k (Err f) m' → Counts m₀ ss r m'
   counts-err r f by p =
       let q = err_from_is_err_and r by in
-      subst (λ t. Counts m₀ ss t m') (sym (q.1 ∙ ap Err q.2)) (refused f p)
+      rw (q.1 ∙ ap Err q.2) (refused f p)
 
 module _ (D : Type 0) (meaning : D → Meaning) (does : D → Request → Answer → D → Type 0) (d d₁ d₂ d' : D) (ss done : List Step) (e : Ending) (w : ℕ) where
   pub reported : Ended does ss d e d₁ → Ran (meaning d) ss e (meaning d₁) → does d₁ restarting (Ok tt) d₂ → Restarts (meaning d₁) (Ok tt) (meaning d₂) →
@@ -92,43 +91,13 @@ module _ (D : Type 0) (meaning : D → Meaning) (does : D → Request → Answer
             counts.answer
             ∙ (ap (wrong (meaning d₂)) is
             ∙ (ap (λ n. failing n (passes (meaning d₂) (take (reach e ss) ss))) (sym counts.size)
-            ∙ failing-same (meaning d').size _ _ (λ k lt. ap (λ x. among x (leaves k (blank ∷ []) (take (reach e ss) ss))) (sym (counts.shows k (subst (λ n. k < n) counts.size lt))))));
+            ∙ failing-same (meaning d').size _ _ (λ k lt. ap (λ x. among x (leaves k (blank ∷ []) (take (reach e ss) ss))) (sym (counts.shows k (omega arith))))));
         allowed = λ fresh zero-at.
             counts.answer
             ∙ (ap (wrong (meaning d₂)) is
             ∙ failing-none (meaning d₂).size (passes (meaning d₂) (take (reach e ss) ss)) (λ k lt.
-            let lt₁ = subst (λ n. k < n) rule.size lt in
-            let lt₀ = subst (λ n. k < n) ran.size lt₁ in
+            let lt₁ : k < (meaning d₁).size = omega arith in
+            let lt₀ : k < (meaning d).size = omega arith in
             let i = ran.allows fresh k ((meaning d₂).shown k) lt₀ (rule.answer.picks k lt₁) in
             in-among ((meaning d₂).shown k) _ (subst (λ x. In ((meaning d₂).shown k) (leaves k (x ∷ []) (take (reach e ss) ss))) (zero-at k lt₀) i)));
       }
-
-ok-err : {f : DiskFault} → ◌≡◌ {A = Answer} (Err f) (Ok tt) → ⊥
-ok-err e = both_ways false refl (ap is_ok e)
-
-module _ (D : Type 0) (meaning : D → Meaning) (does : D → Request → Answer → D → Type 0) (d d₁ d₂ d' : D) (ss done : List Step) (e : Ending) (f : DiskFault) where
-  -- the restart is refused, and a `?` hands that on
-  pub lost-restart : (r : Result Report DiskFault) → IsErrAnd r (λ g. g ≡ f) → Ended does ss d e d₁ → does d₁ restarting (Err f) d₂ → Restarts (meaning d₁) (Err f) (meaning d₂) →
-      StopAnswers meaning does d ss r d₂
-  lost-restart r by ended asked rule =
-      let q = err_from_is_err_and r by in
-      subst (λ t. StopAnswers meaning does d ss t d₂) (sym (q.1 ∙ ap Err q.2)) (record {
-        ending = e;
-        stopped = d₁;
-        ran = ended;
-        refused = inl asked;
-        not_calm = λ c. ok-err (rule.calm.accepts c tt);
-      })
-
-  -- a look is refused
-  pub lost-look : (r : Result Report DiskFault) → IsErrAnd r (λ g. g ≡ f) → Ended does ss d e d₁ → does d₁ restarting (Ok tt) d₂ → Restarts (meaning d₁) (Ok tt) (meaning d₂) →
-      Counts (meaning d₂) done (Err f) (meaning d') → StopAnswers meaning does d ss r d'
-  lost-look r by ended asked rule counts =
-      let q = err_from_is_err_and r by in
-      subst (λ t. StopAnswers meaning does d ss t d') (sym (q.1 ∙ ap Err q.2)) (record {
-        ending = e;
-        stopped = d₁;
-        ran = ended;
-        refused = inr (d₂, asked, counts.answer);
-        not_calm = λ c. both_ways false refl (counts.accepts (rule.calm.stays c) rule.answer.live);
-      })

@@ -4,6 +4,7 @@ ghost use Rattle.plan.specs.Plans.{blank};
 ghost use Rattle.trial.specs.Leaves.{after as allowed_after, leaves, among};
 ghost use Rattle.trial.specs.Judges.{Knows};
 
+use disk::{SECTOR_SIZE, SectorBytes};
 use plan::step::Step;
 
 /// What is known of a sector's contents, step by step: whether they are the newest put, and whether they are any that is allowed.
@@ -15,10 +16,10 @@ pub struct Judged {
 
 impl Judged {
     /// What is known of a sector that was blank at first.
-    fn at_first(shown: &[u8; 1024]) -> Judged
+    fn at_first(shown: &SectorBytes) -> Judged
         ensures { Knows result shown.now (blank ∷ []) }
     {
-        let blank = [0; 1024] == *shown;
+        let blank = [0; SECTOR_SIZE] == *shown;
         Judged {
             newest: blank,
             allowed: blank,
@@ -26,7 +27,7 @@ impl Judged {
     }
 
     /// What is known after one step more.
-    fn after(self, step: &Step, sector: usize, shown: &[u8; 1024]) -> Judged
+    fn after(self, step: &Step, sector: usize, shown: &SectorBytes) -> Judged
         ensures { (xs : List Contents) → Knows self shown.now xs → Knows result shown.now (allowed_after sector xs step.now) }
     {
         match step {
@@ -47,7 +48,7 @@ impl Judged {
 }
 
 /// Whether a sector that was blank at first may show this after these steps: what was settled last, or what was put later.
-pub fn allowed(steps: &[Step], sector: usize, shown: &[u8; 1024]) -> bool
+pub fn allowed(steps: &[Step], sector: usize, shown: &SectorBytes) -> bool
     ensures { result ≡ among shown.now (leaves sector (blank ∷ []) steps.now) }
 {
     let mut judged = Judged::at_first(shown);

@@ -23,6 +23,7 @@ pub fn run<D: Disk>(disk: &mut D, steps: &[Step]) -> Ending
 {
     let _ = disk.size(); // tells what holds of every disk, also where no step is asked
     for (i, step) in steps.iter().enumerate() {
+        // `map_err` and `?` were tried in place of this, and the proof did not close
         if let Err(fault) = ask(disk, step) {
             return Err(Stop { step: i, fault });
         }

@@ -4,8 +4,8 @@ ghost use Rattle.trial.specs.Stops.{Looks, Counts, StopAnswers};
 use crate::ending::{Ending, reach};
 use crate::judge::allowed;
 use crate::run::run;
-use disk::Disk;
 use disk::fault::DiskFault;
+use disk::{Disk, SECTOR_SIZE};
 use plan::step::Step;
 
 /// How a run of a plan ended, and how many sectors show something after the restart that the plan does not allow.
@@ -28,7 +28,7 @@ impl Report {
 fn look<D: Disk>(disk: &mut D, steps: &[Step], k: usize) -> Result<bool, DiskFault>
     ensures { Looks (D.Disk.meaning disk.old) steps.now k result (D.Disk.meaning disk.new) }
 {
-    let mut shown = [0u8; 1024];
+    let mut shown = [0u8; SECTOR_SIZE];
     disk.get(k, &mut shown)?;
     Ok(allowed(steps, k, &shown))
 }

@@ -40,8 +40,10 @@ impl Table {
     pub(crate) fn get(&self, n: usize) -> Option<&SectorBytes>
         ensures { option_copied result ≡ at self.now.rows.items n }
     {
-        let i = self.position(n)?;
-        Some(&self.rows[i].bytes)
+        self.rows
+            .iter()
+            .find(|kept| kept.sector == n)
+            .map(|kept| &kept.bytes)
     }
 
     /// Keeps `bytes` as sector `n`, if that is kept already or there is room.
