@@ -12,6 +12,7 @@ pub mod laws;
 use fault::DiskFault;
 
 /// How many bytes a sector has.
+// `layout` has a size of its own: the format and the disk know nothing of each other
 pub const SECTOR_SIZE: usize = 1024;
 
 /// The bytes of a sector.

@@ -108,6 +108,7 @@ impl Page {
         let head = PageHead::read(sector)?;
         head.check_count(kind)?;
         let leaf = head.is_leaf();
+        // asked as due first: where none is due and none is there, `sector` answers none as well
         if !head.first.is_as_due(!leaf, size) {
             return Err(PageFault::BadLink);
         }

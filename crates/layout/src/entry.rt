@@ -110,6 +110,7 @@ fn is_zero(bytes: &[u8]) -> bool
 
 impl PageHead {
     /// The fields before the entries, asked for the mark and for the zeros behind them.
+    // no `TryFrom`: `Page::decode` reads a sector too, and asks more
     pub fn read(sector: &SectorBytes) -> Result<PageHead, PageFault>
         ensures { result ≡ head_in sector.now }
     {
@@ -198,6 +199,7 @@ impl StoredEntry {
     {
         let name = Name::from_field(self.name.bytes).ok_or(PageFault::BadName)?;
         let file = self.file.sector(size).ok_or(PageFault::BadLink)?;
+        // asked as due first: where none is due and none is there, `sector` answers none as well
         if !self.below.is_as_due(!leaf, size) {
             return Err(PageFault::BadLink);
         }

@@ -98,6 +98,7 @@ impl Header {
     }
 
     /// The header of a sector, asked only for its mark and its end.
+    // no `TryFrom`: `decode` reads a sector too, and asks more
     pub fn read(sector: &SectorBytes) -> Result<Header, HeaderFault>
         ensures { result ≡ read_header sector.now }
     {

@@ -19,6 +19,7 @@ pub struct Table {
 
 impl Table {
     /// The sector that holds the table.
+    // no `From`, here and below: `encode` and `decode` are the words for all that fills a sector, and others take a size too
     pub fn encode(&self) -> SectorBytes
         ensures { result ≡ table_bytes self.now }
     {

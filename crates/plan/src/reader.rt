@@ -26,6 +26,7 @@ fn is_printable(s: &[u8]) -> bool
 }
 
 /// A sector that starts with this text and is zero after it.
+// a name is filled up so too, in `numbers`, which has nothing in common with a plan
 fn fill(text: &[u8]) -> [u8; 1024]
     requires { length text.now ≤ 1024 }
     ensures { result ≡ filled text.now }

@@ -67,6 +67,7 @@ impl fmt::Display for Setup {
 }
 
 /// Runs the plan on a disk up to a power stop, restarts, and adds to `line` where it stopped and what is left.
+// `steps` is what is asked and `line` what is told, here and below: not one thing
 fn try_disk<D: Disk + Drop>(
     mut disk: D,
     steps: &[Step],

@@ -27,6 +27,7 @@ impl Judged {
     }
 
     /// What is known after one step more.
+    // `sector` and `shown` go together in two functions only, here and below
     fn after(self, step: &Step, sector: usize, shown: &SectorBytes) -> Judged
         ensures { (xs : List Contents) → Knows self shown.now xs → Knows result shown.now (allowed_after sector xs step.now) }
     {

@@ -63,6 +63,7 @@ impl Table {
                 self.rows[i] = row;
                 Ok(())
             }
+            // `try_push` and `map_err` were tried in place of these two arms, and the proof did not close
             None if self.rows.is_full() => Err(Full),
             None => {
                 self.rows.push(row);
