@@ -29,6 +29,7 @@ pub struct DiskFault {
     pub sector: usize,
 }
 
+// two functions that differ in their cause alone: one that is given it would be the struct itself over again
 impl DiskFault {
     /// There is no sector of this number.
     pub fn outside(layer: Layer, sector: usize) -> DiskFault
