@@ -75,6 +75,7 @@ impl<D: Disk> Disk for Hold<D> {
         self.below.live() // as below
     }
 
+    // asked here and in `put`, and so in a fuse: a method for these few lines would have a clause longer than they are
     fn get(&mut self, n: usize, into: &mut SectorBytes) -> Result<(), DiskFault> {
         if n >= self.below.size() {
             return Err(DiskFault::outside(Layer::Hold, n));

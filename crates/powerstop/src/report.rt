@@ -40,6 +40,7 @@ impl fmt::Display for Stopped<'_> {
 }
 
 /// The text of a sector, up to its first zero.
+// `numbers` ends a name at its first zero too, and has nothing in common with a report
 #[derive(Clone, Copy)]
 struct Text<'a>(&'a SectorBytes);
 

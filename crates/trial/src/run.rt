@@ -23,7 +23,7 @@ pub fn run<D: Disk>(disk: &mut D, steps: &[Step]) -> Ending
 {
     let _ = disk.size(); // tells what holds of every disk, also where no step is asked
     for (i, step) in steps.iter().enumerate() {
-        // `map_err` and `?` were tried in place of this, and the proof did not close
+        // `map_err` and `?` were checked three times in place of this; what the closure is told of the answer did not come out of its clause
         if let Err(fault) = ask(disk, step) {
             return Err(Stop { step: i, fault });
         }

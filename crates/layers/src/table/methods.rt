@@ -63,7 +63,7 @@ impl Table {
                 self.rows[i] = row;
                 Ok(())
             }
-            // `try_push` and `map_err` were tried in place of these two arms, and the proof did not close
+            // `try_push` and `map_err` were checked once in place of these two arms; three goals stayed open, and their answers are not written
             None if self.rows.is_full() => Err(Full),
             None => {
                 self.rows.push(row);
