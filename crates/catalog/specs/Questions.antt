@@ -114,31 +114,30 @@ module _ (size : ℕ) (shown : ℕ → Contents) where
   abbrev pub ask_entry : Key → ℕ → Step
   ask_entry name s = ask_file s ▸ list (record { name = name; first = s; long = length_at s })
 
-  -- the first leaf's level: down the p0 of each page while it leads to a sector, n pages at most
+  -- the first leaf's level: down the p0 of each page until one has none, n pages at most
   unfoldable pub first_leaf : ℕ → ℕ → ℕ → ℕ
   first_leaf zero level s = level
-  first_leaf (suc n) level s =
-      let p0 = word (shown s) first_at in cond (leads size p0) (first_leaf n (suc level) (p0 / address_step)) level
+  first_leaf (suc n) level s = let p0 = word (shown s) first_at in cond (p0 == 0) level (first_leaf n (suc level) (p0 / address_step))
 
   abbrev pub leaf_level : ℕ
   leaf_level = first_leaf most_levels 1 root_sector
 
-  -- a page: 11, 12, 15, p0, then of each entry 16, its file and p. A page whose p0 is 0 is a leaf. No page on level 5 passes 15, so
-  -- that n = 5 is enough
-  unfoldable pub ask_page : ℕ → ℕ → ℕ → Step
-  ask_page zero level s = ask false (BadLevel (at s))
-  ask_page (suc n) level s =
+  -- a page: 11, 12, 15, p0, then of each entry 16, its file and p. A page whose p0 is 0 is a leaf, and belongs on level `deep`. No page on
+  -- level 5 passes 15, so that n = 5 is enough
+  unfoldable pub ask_page : ℕ → ℕ → ℕ → ℕ → Step
+  ask_page deep zero level s = ask false (BadLevel (at s))
+  ask_page deep (suc n) level s =
       let c = shown s in
       let m = word c count_at in
       let leaf = nat_eq (word c first_at) 0 in
       ask (word c page_mark_at == page_mark && every (λ b. nat_eq b 0) (part c zeros_at (entries_at - zeros_at))) (BadMark (at s)) ▸
       ask (count_fits (kind_at level) leaf m) (BadCount (at s)) ▸
-      ask (nat_le level most_levels && (not leaf || level == leaf_level)) (BadLevel (at s)) ▸
-      link (not leaf) s (word c first_at) (ask_page n (suc level)) ▸
+      ask (nat_le level most_levels && (not leaf || level == deep)) (BadLevel (at s)) ▸
+      link (not leaf) s (word c first_at) (ask_page deep n (suc level)) ▸
       (λ (st : Sofar). each (λ (i : ℕ).
       rise s (part c (entry_at i) name_size) ▸
       link true s (word c (entry_at i + file_at)) (ask_entry (name_in (part c (entry_at i) name_size))) ▸
-      link (not leaf) s (word c (entry_at i + below_at)) (ask_page n (suc level))) (range 0 m) st)
+      link (not leaf) s (word c (entry_at i + below_at)) (ask_page deep n (suc level))) (range 0 m) st)
 
   -- what the addresses lead to, unasked
   unfoldable pub extent : ℕ → Extent
@@ -173,7 +172,7 @@ module _ (size : ℕ) (shown : ℕ → Contents) where
   begin s = record { met = s ∷ []; last = []; listed = [] }
 
   unfoldable pub asked : Result Sofar LayoutFault
-  asked = (ask (good_size size) BadSize ▸ ask_page 5 1 root_sector) (begin root_sector)
+  asked = (ask (good_size size) BadSize ▸ ask_page leaf_level 5 1 root_sector) (begin root_sector)
 
   abbrev pub given : {A : Type 0} → A → Result Sofar LayoutFault → Result A LayoutFault
   given x (Ok s) = Ok x
