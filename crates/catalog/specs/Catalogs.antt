@@ -107,3 +107,9 @@ rows_of (e ∷ es) (x ∷ xs) = record { name = e.0; first = e.1; long = x.long 
 
 abbrev pub rows : Catalog → List Row
 rows c = rows_of (entries c) c.files
+
+-- a table of records with these laid over its first ones, as far as it reaches
+abbrev pub overlaid : {A : Type 0} → List A → List A → List A
+overlaid [] ys = ys
+overlaid (x ∷ xs) [] = []
+overlaid (x ∷ xs) (y ∷ ys) = x ∷ overlaid xs ys

@@ -13,7 +13,7 @@ use Rattle.disk.specs.declared.fault.DiskFault.{DiskFault}
 use Rattle.disk.specs.declared.fault.Cause.TheVariants.{Gone}
 use Rattle.catalog.specs.declared.fault.LayoutFault.{LayoutFault}
 use Rattle.catalog.specs.declared.fault.LayoutFault.TheVariants.{BadSize}
-use Rattle.catalog.specs.Catalogs.{Extent, Catalog, Row, plain_tree, page_sectors, file_sectors, bytes_of}
+use Rattle.catalog.specs.Catalogs.{Extent, Catalog, Row, plain_tree, page_sectors, file_sectors, bytes_of, overlaid}
 use Rattle.catalog.specs.Questions.{good_size, most_sectors, found}
 use Rattle.promise.specs.declared.fault.FileFault.{FileFault}
 use Rattle.promise.specs.declared.fault.FileFault.TheVariants.{Waiting, BadName, BadSlot, Absent, Full, Nameless, TooLong, NoRoom}
@@ -250,12 +250,6 @@ moved t r k e = record { slot = r.slot; place = from t r + k; end = e }
 abbrev pub filled : Table → Rider → ℕ → List ℕ → List ℕ
 filled t r k b = take k (drop (from t r) (file t r.slot).bytes) ++ drop k b
 
--- the lines of a table of records, as far as it reaches
-abbrev pub over : {A : Type 0} → List A → List A → List A
-over [] ys = ys
-over (x ∷ xs) [] = []
-over (x ∷ xs) (y ∷ ys) = x ∷ over xs ys
-
 -- EACH CALL, ACCEPTED: its answer and the table after it. Left free: which free sector New takes
 abbrev pub accepted : Table → ℕ → Call → Answer × Table
 accepted t taken (New n) =
@@ -274,7 +268,7 @@ accepted t taken (Write r b) =
 accepted t taken (Register s) =
     (Done, with_tree (with_name t s) (with_file (slot t s).file (closed (file t s)) (with_slot s (Some (registered (slot t s))) t)))
 accepted t taken (Close s) = (Done, with_file (slot t s).file (closed (file t s)) (with_slot s (one_less (slot t s)) t))
-accepted t taken (Names rs) = (Named (length (records t)) (over (records t) rs), t)
+accepted t taken (Names rs) = (Named (length (records t)) (overlaid (records t) rs), t)
 
 -- the table's word: the first no, with nothing changed, or the call accepted
 abbrev pub unless : Option FileFault → Table → Answer × Table → Answer × Table
@@ -322,7 +316,7 @@ pub data Turn (t : Table) : Call → Answer → Table → Type 0 where
       Turn t (Read r b) (NoRead f k (moved t r k r.end) (filled t r k b)) (waits t)
   -- a List the k records filled
   gone_names : (rs : List Row) (f : DiskFault) (k : ℕ) → f.cause ≡ Gone → first (before t (Names rs)) ≡ None → k ≤ min (length (records t)) (length rs) →
-      Turn t (Names rs) (NoNames f k (over (take k (records t)) rs)) (waits t)
+      Turn t (Names rs) (NoNames f k (overlaid (take k (records t)) rs)) (waits t)
 
 -- FORMAT AND START, on N sectors
 abbrev pub no_slots : List (Option Slot)
