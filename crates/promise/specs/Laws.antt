@@ -1,45 +1,19 @@
 -- What holds of the table, of the ledger, and of the two together.
-use Rattle.std.specs.Prelude.{◌≡◌, ℕ, ◌+◌, ◌<◌, ◌≤◌, true, false, List, [], ◌++◌, map, length, get_or, None, slice_index_or}
+use Rattle.std.specs.Prelude.{◌≡◌, ℕ, ◌<◌, true, false, List, [], map, length, get_or, slice_index_or}
 use Rattle.numbers.specs.Names.{Key}
 use Rattle.tree.specs.Tree.{Entry}
-use Rattle.disk.specs.Meaning.{Contents}
-use Rattle.catalog.specs.Catalogs.{Catalog, bytes_of}
 use Rattle.promise.specs.declared.fault.FileFault.{FileFault}
 use Rattle.promise.specs.Faults.{is_three}
-use Rattle.promise.specs.Table.{Table, Call, Answer, No, first, before, behind, plain, waits, Turn, Format, Start, formatted, started, no_slots, Proper}
-use Rattle.promise.specs.Ledger.{Ledger, blank, numbered, file_by, follow, wiping, Resolves, restarted, Sane}
-use Rattle.promise.specs.Promise.{name_of, Agrees}
+use Rattle.promise.specs.Table.{Table, Call, Answer, No, waits, Turn, no_slots}
+use Rattle.promise.specs.Ledger.{Ledger, numbered, file_by, follow, restarted}
+use Rattle.promise.specs.Promise.{name_of}
 use Rattle.promise.specs.Calls.{says_three}
-use Rattle.promise.specs.Together.{Together, taken, freed}
-
--- each sector of a disk has 1,024 bytes
-abbrev pub Sized : ℕ → (ℕ → Contents) → Type 0
-Sized size shown = (s : ℕ) → s < size → length (shown s) ≡ 1024
-
--- THE TABLE. Every call keeps it proper, whatever it answers
-pub record StaysProper : Type 0 where
-  pub turns : (t t' : Table) (c : Call) (a : Answer) → Proper t → Turn t c a t' → Proper t'
-  pub formats : (size : ℕ) (t t' : Table) (a : Answer) → Proper t → Format size t a t' → Proper t'
-  pub starts : (size : ℕ) (shown : ℕ → Contents) (t t' : Table) (a : Answer) → Sized size shown → Proper t → Start size shown t a t' → Proper t'
-
--- an accepted call takes no more than is free, and the free sectors are what they were, less those taken, and those set free
-abbrev pub Accounts : Type 0
-Accounts = (t : Table) (s : ℕ) (c : Call) → Proper t → first (before t c ++ behind t c) ≡ None →
-    (taken t c ≤ t.free) × ((plain t s c).1.free + taken t c ≡ t.free + freed t c)
 
 -- REFUSALS. Any but a 3 changes neither table nor ledger; after a 3 the table is the same, and waits
 pub record Refusals : Type 0 where
   pub table : (t t' : Table) (c : Call) (r : FileFault) → Turn t c (No r) t' → is_three r ≡ false → t' ≡ t
   pub ledger : (l : Ledger) (c : Call) (r : FileFault) → is_three r ≡ false → follow l c (No r) ≡ l
   pub three : (t t' : Table) (c : Call) (a : Answer) → Turn t c a t' → says_three a ≡ true → t' ≡ waits t
-
--- THE LEDGER of a run stays as it should be: names rise, possible bytes have the file's own, and so on
-pub record StaysSane : Type 0 where
-  pub begins : Sane blank
-  pub turns : (t t' : Table) (l : Ledger) (c : Call) (a : Answer) → Proper t → Together t l → Sane l → Turn t c a t' → Sane (follow l c a)
-  pub wipes : (l : Ledger) → Sane l → Sane (wiping l)
-  pub resolves : (l l' : Ledger) → Sane l → Resolves l l' → Sane l'
-  pub restarts : (l : Ledger) (size : ℕ) (shown : ℕ → Contents) (c : Catalog) → Sane l → Agrees l size shown c → Sane (restarted l (map (bytes_of shown) c.files))
 
 -- an accepted Start forgets exactly slots and files without a name
 pub record Forgets (l : Ledger) (found : List (List ℕ)) : Type 0 where
@@ -54,9 +28,3 @@ pub record Forgets (l : Ledger) (found : List (List ℕ)) : Type 0 where
 
 abbrev pub RestartForgets : Type 0
 RestartForgets = (l : Ledger) (found : List (List ℕ)) → Forgets l found
-
--- TABLE AND LEDGER GO TOGETHER, from Format on, through every call, and after an accepted Start
-pub record StayTogether : Type 0 where
-  pub formats : (size : ℕ) → Together (formatted size) blank
-  pub turns : (t t' : Table) (l : Ledger) (c : Call) (a : Answer) → Proper t → Sane l → Together t l → Turn t c a t' → Together t' (follow l c a)
-  pub starts : (l : Ledger) (size : ℕ) (shown : ℕ → Contents) (c : Catalog) → Sane l → Agrees l size shown c → Together (started size shown c) (restarted l (map (bytes_of shown) c.files))

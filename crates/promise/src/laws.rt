@@ -1,0 +1,13 @@
+//! What holds of the table, of the ledger, and of the two together, each stated by the contract of a function.
+
+ghost use Rattle.promise.specs.Laws.{Refusals, RestartForgets};
+
+/// A refusal but 3 changes nothing; after a 3 the store waits.
+pub fn refusals_stand()
+    ensures { Refusals }
+{}
+
+/// An accepted start forgets slots and files without a name, and nothing else.
+pub fn restart_stands()
+    ensures { RestartForgets }
+{}
