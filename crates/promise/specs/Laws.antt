@@ -1,13 +1,19 @@
 -- What holds of the table, of the ledger, and of the two together.
-use Rattle.std.specs.Prelude.{◌≡◌, ℕ, ◌<◌, true, false, List, [], map, length, get_or, slice_index_or}
+use Rattle.std.specs.Prelude.{◌≡◌, ℕ, ◌+◌, ◌<◌, ◌≤◌, true, false, List, [], ◌++◌, map, length, get_or, None, slice_index_or}
 use Rattle.numbers.specs.Names.{Key}
 use Rattle.tree.specs.Tree.{Entry}
 use Rattle.promise.specs.declared.fault.FileFault.{FileFault}
 use Rattle.promise.specs.Faults.{is_three}
-use Rattle.promise.specs.Table.{Table, Call, Answer, No, waits, Turn, no_slots}
+use Rattle.promise.specs.Table.{Table, Call, Answer, No, first, before, behind, plain, waits, Turn, no_slots, Proper}
 use Rattle.promise.specs.Ledger.{Ledger, numbered, file_by, follow, restarted}
 use Rattle.promise.specs.Promise.{name_of}
 use Rattle.promise.specs.Calls.{says_three}
+use Rattle.promise.specs.Together.{taken, freed}
+
+-- an accepted call takes no more than is free, and the free sectors are what they were, less those taken, and those set free
+abbrev pub Accounts : Type 0
+Accounts = (t : Table) (s : ℕ) (c : Call) → Proper t → first (before t c ++ behind t c) ≡ None →
+    (taken t c ≤ t.free) × ((plain t s c).1.free + taken t c ≡ t.free + freed t c)
 
 -- REFUSALS. Any but a 3 changes neither table nor ledger; after a 3 the table is the same, and waits
 pub record Refusals : Type 0 where

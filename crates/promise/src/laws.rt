@@ -1,6 +1,11 @@
 //! What holds of the table, of the ledger, and of the two together, each stated by the contract of a function.
 
-ghost use Rattle.promise.specs.Laws.{Refusals, RestartForgets};
+ghost use Rattle.promise.specs.Laws.{Accounts, Refusals, RestartForgets};
+
+/// An accepted call takes no more sectors than are free, and the account of free sectors is exact.
+pub fn accounts_stand()
+    ensures { Accounts }
+{}
 
 /// A refusal but 3 changes nothing; after a 3 the store waits.
 pub fn refusals_stand()
