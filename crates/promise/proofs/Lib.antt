@@ -3,3 +3,6 @@ pub mod Restarted
 pub mod Granted
 pub mod Directory
 pub mod Accounts
+pub mod Slots
+pub mod Entries
+pub mod StayProper

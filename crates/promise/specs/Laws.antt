@@ -4,11 +4,16 @@ use Rattle.numbers.specs.Names.{Key}
 use Rattle.tree.specs.Tree.{Entry}
 use Rattle.promise.specs.declared.fault.FileFault.{FileFault}
 use Rattle.promise.specs.Faults.{is_three}
-use Rattle.promise.specs.Table.{Table, Call, Answer, No, first, before, behind, plain, waits, Turn, no_slots, Proper}
+use Rattle.promise.specs.Table.{Table, Call, Answer, No, first, before, behind, plain, waits, Turn, Format, no_slots, Proper}
 use Rattle.promise.specs.Ledger.{Ledger, numbered, file_by, follow, restarted}
 use Rattle.promise.specs.Promise.{name_of}
 use Rattle.promise.specs.Calls.{says_three}
 use Rattle.promise.specs.Together.{taken, freed}
+
+-- THE TABLE. Every call keeps it proper, whatever it answers
+pub record StaysProper : Type 0 where
+  pub turns : (t t' : Table) (c : Call) (a : Answer) → Proper t → Turn t c a t' → Proper t'
+  pub formats : (size : ℕ) (t t' : Table) (a : Answer) → Proper t → Format size t a t' → Proper t'
 
 -- an accepted call takes no more than is free, and the free sectors are what they were, less those taken, and those set free
 abbrev pub Accounts : Type 0

@@ -1,6 +1,11 @@
 //! What holds of the table, of the ledger, and of the two together, each stated by the contract of a function.
 
-ghost use Rattle.promise.specs.Laws.{Accounts, Refusals, RestartForgets};
+ghost use Rattle.promise.specs.Laws.{StaysProper, Accounts, Refusals, RestartForgets};
+
+/// Every call keeps the table proper, whatever it answers.
+pub fn proper_stands()
+    ensures { StaysProper }
+{}
 
 /// An accepted call takes no more sectors than are free, and the account of free sectors is exact.
 pub fn accounts_stand()

@@ -1,0 +1,5 @@
+use Rattle.promise.proofs.laws.proper_stands.Goals as goal
+use Rattle.promise.proofs.StayProper.{turns, formats}
+
+pub returns : goal.returns
+returns c = record { turns = turns; formats = formats }
