@@ -6,3 +6,6 @@ pub mod Accounts
 pub mod Slots
 pub mod Entries
 pub mod StayProper
+pub mod Ledgers
+pub mod Beside
+pub mod StaySane

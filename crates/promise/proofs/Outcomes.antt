@@ -75,7 +75,7 @@ table t t' c r u h = elim (outcome t u) [
   | broken b s f i ↦ cc
 ]
 
-ledger : (l : Ledger) (c : Call) (r : FileFault) → is_three r ≡ false → follow l c (No r) ≡ l
+pub ledger : (l : Ledger) (c : Call) (r : FileFault) → is_three r ≡ false → follow l c (No r) ≡ l
 ledger l c r h = rw h
 
 three : (t t' : Table) (c : Call) (a : Answer) → Turn t c a t' → says_three a ≡ true → t' ≡ waits t

@@ -2,13 +2,15 @@
 use Rattle.std.specs.Prelude.{◌≡◌, ℕ, ◌+◌, ◌<◌, ◌≤◌, true, false, List, [], ◌++◌, map, length, get_or, None, slice_index_or}
 use Rattle.numbers.specs.Names.{Key}
 use Rattle.tree.specs.Tree.{Entry}
+use Rattle.disk.specs.Meaning.{Contents}
+use Rattle.catalog.specs.Catalogs.{Catalog, bytes_of}
 use Rattle.promise.specs.declared.fault.FileFault.{FileFault}
 use Rattle.promise.specs.Faults.{is_three}
 use Rattle.promise.specs.Table.{Table, Call, Answer, No, first, before, behind, plain, waits, Turn, Format, no_slots, Proper}
-use Rattle.promise.specs.Ledger.{Ledger, numbered, file_by, follow, restarted}
-use Rattle.promise.specs.Promise.{name_of}
+use Rattle.promise.specs.Ledger.{Ledger, blank, numbered, file_by, follow, wiping, Resolves, restarted, Sane}
+use Rattle.promise.specs.Promise.{name_of, Agrees}
 use Rattle.promise.specs.Calls.{says_three}
-use Rattle.promise.specs.Together.{taken, freed}
+use Rattle.promise.specs.Together.{Together, taken, freed}
 
 -- THE TABLE. Every call keeps it proper, whatever it answers
 pub record StaysProper : Type 0 where
@@ -25,6 +27,14 @@ pub record Refusals : Type 0 where
   pub table : (t t' : Table) (c : Call) (r : FileFault) → Turn t c (No r) t' → is_three r ≡ false → t' ≡ t
   pub ledger : (l : Ledger) (c : Call) (r : FileFault) → is_three r ≡ false → follow l c (No r) ≡ l
   pub three : (t t' : Table) (c : Call) (a : Answer) → Turn t c a t' → says_three a ≡ true → t' ≡ waits t
+
+-- THE LEDGER of a run stays as it should be: names rise, possible bytes have the file's own, and so on
+pub record StaysSane : Type 0 where
+  pub begins : Sane blank
+  pub turns : (t t' : Table) (l : Ledger) (c : Call) (a : Answer) → Proper t → Together t l → Sane l → Turn t c a t' → Sane (follow l c a)
+  pub wipes : (l : Ledger) → Sane l → Sane (wiping l)
+  pub resolves : (l l' : Ledger) → Sane l → Resolves l l' → Sane l'
+  pub restarts : (l : Ledger) (size : ℕ) (shown : ℕ → Contents) (c : Catalog) → Sane l → Agrees l size shown c → Sane (restarted l (map (bytes_of shown) c.files))
 
 -- an accepted Start forgets exactly slots and files without a name
 pub record Forgets (l : Ledger) (found : List (List ℕ)) : Type 0 where

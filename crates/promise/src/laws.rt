@@ -1,6 +1,6 @@
 //! What holds of the table, of the ledger, and of the two together, each stated by the contract of a function.
 
-ghost use Rattle.promise.specs.Laws.{StaysProper, Accounts, Refusals, RestartForgets};
+ghost use Rattle.promise.specs.Laws.{StaysProper, Accounts, Refusals, StaysSane, RestartForgets};
 
 /// Every call keeps the table proper, whatever it answers.
 pub fn proper_stands()
@@ -15,6 +15,11 @@ pub fn accounts_stand()
 /// A refusal but 3 changes nothing; after a 3 the store waits.
 pub fn refusals_stand()
     ensures { Refusals }
+{}
+
+/// The ledger of a run stays sane: through calls, broken-off ones and starts.
+pub fn sane_stands()
+    ensures { StaysSane }
 {}
 
 /// An accepted start forgets slots and files without a name, and nothing else.
