@@ -85,7 +85,7 @@ file-set (f ∷ fs) zero (suc n) w = inr refl
 file-set (f ∷ fs) (suc k) zero w = inr refl
 file-set (f ∷ fs) (suc k) (suc n) w = file-set fs k n w
 
-file-more : (fs : List Written) (n : ℕ) → get_or (fs ++ (no_file ∷ [])) n no_file ≡ get_or fs n no_file
+pub file-more : (fs : List Written) (n : ℕ) → get_or (fs ++ (no_file ∷ [])) n no_file ≡ get_or fs n no_file
 file-more [] zero = refl
 file-more [] (suc n) = refl
 file-more (f ∷ fs) zero = refl

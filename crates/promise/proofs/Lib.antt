@@ -9,3 +9,7 @@ pub mod StayProper
 pub mod Ledgers
 pub mod Beside
 pub mod StaySane
+pub mod Links
+pub mod StayTogether
+pub mod Firsts
+pub mod StartTogether

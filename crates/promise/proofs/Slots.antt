@@ -59,3 +59,8 @@ no-slot s x e = go 8 s e
     go zero s e = none-some x e
     go (suc n) zero e = none-some x e
     go (suc n) (suc s) e = go n s e
+
+pub slot-now : (os : List (Option Slot)) (s : ℕ) (x : Slot) (o : Option Slot) → get_or os s None ≡ Some x → get_or (set os s o) s None ≡ o
+slot-now [] s x o e = absurd (none-some x e)
+slot-now (y ∷ os) zero x o e = refl
+slot-now (y ∷ os) (suc s) x o e = slot-now os s x o e

@@ -18,7 +18,7 @@ use Rattle.promise.proofs.Slots.{no-slot}
 use Rattle.promise.proofs.Ledgers.{no_file-covers, in-number, sound, sane, counts-sound, carried-sound, blank-sane}
 use Rattle.promise.proofs.Beside.{told, fate-told, register-legal, close-legal, legal, was-ready, ready-behind}
 
-counts-broken : (l : Ledger) (s : ℕ) (c : Call) → (counts l s c).broken ≡ l.broken
+pub counts-broken : (l : Ledger) (s : ℕ) (c : Call) → (counts l s c).broken ≡ l.broken
 counts-broken l s (New n) = refl
 counts-broken l s (Old n) = refl
 counts-broken l s (Delete n) = refl

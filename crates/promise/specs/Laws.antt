@@ -6,7 +6,7 @@ use Rattle.disk.specs.Meaning.{Contents}
 use Rattle.catalog.specs.Catalogs.{Catalog, bytes_of}
 use Rattle.promise.specs.declared.fault.FileFault.{FileFault}
 use Rattle.promise.specs.Faults.{is_three}
-use Rattle.promise.specs.Table.{Table, Call, Answer, No, first, before, behind, plain, waits, Turn, Format, no_slots, Proper}
+use Rattle.promise.specs.Table.{Table, Call, Answer, No, first, before, behind, plain, waits, Turn, Format, formatted, started, no_slots, Proper}
 use Rattle.promise.specs.Ledger.{Ledger, blank, numbered, file_by, follow, wiping, Resolves, restarted, Sane}
 use Rattle.promise.specs.Promise.{name_of, Agrees}
 use Rattle.promise.specs.Calls.{says_three}
@@ -49,3 +49,9 @@ pub record Forgets (l : Ledger) (found : List (List ℕ)) : Type 0 where
 
 abbrev pub RestartForgets : Type 0
 RestartForgets = (l : Ledger) (found : List (List ℕ)) → Forgets l found
+
+-- TABLE AND LEDGER GO TOGETHER, from Format on, through every call, and after an accepted Start
+pub record StayTogether : Type 0 where
+  pub formats : (size : ℕ) → Together (formatted size) blank
+  pub turns : (t t' : Table) (l : Ledger) (c : Call) (a : Answer) → Proper t → Sane l → Together t l → Turn t c a t' → Together t' (follow l c a)
+  pub starts : (l : Ledger) (size : ℕ) (shown : ℕ → Contents) (c : Catalog) → Sane l → Agrees l size shown c → Together (started size shown c) (restarted l (map (bytes_of shown) c.files))

@@ -1,6 +1,6 @@
 //! What holds of the table, of the ledger, and of the two together, each stated by the contract of a function.
 
-ghost use Rattle.promise.specs.Laws.{StaysProper, Accounts, Refusals, StaysSane, RestartForgets};
+ghost use Rattle.promise.specs.Laws.{StaysProper, Accounts, Refusals, StaysSane, RestartForgets, StayTogether};
 
 /// Every call keeps the table proper, whatever it answers.
 pub fn proper_stands()
@@ -25,4 +25,9 @@ pub fn sane_stands()
 /// An accepted start forgets slots and files without a name, and nothing else.
 pub fn restart_stands()
     ensures { RestartForgets }
+{}
+
+/// Table and ledger go together, through every call, after a format and after an accepted start.
+pub fn together_stand()
+    ensures { StayTogether }
 {}
