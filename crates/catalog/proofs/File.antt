@@ -11,8 +11,8 @@ use Rattle.layout.specs.Headers.{file_mark, mark_at, last_at, used_at, tables_at
 use Rattle.disk.specs.Meaning.{Contents}
 use Rattle.catalog.specs.declared.fault.LayoutFault.TheVariants.{BadMark, BadLength, BadAddress}
 use Rattle.catalog.specs.Catalogs.{Extent, range}
-use Rattle.catalog.specs.Lays.{Reaches, FileAt}
-use Rattle.catalog.specs.Questions.{Step, ask, ◌▸◌, done, each, at, link, ask_table, ask_file, extent}
+use Rattle.catalog.specs.Lays.{FileAt}
+use Rattle.catalog.specs.Questions.{Step, done, each, at, link, ask_table, ask_file, extent}
 use Rattle.catalog.proofs.Counts.{tick, occ, occ-append, spread, length-range, range_at, sum_c, sum_more, sum-split, sum_same, sum-zero, sum-plus, sum-blocks, sum-until, occ-map, occ-spread}
 use Rattle.catalog.proofs.Means.{Links, Due, Means, means-iff, means-seq, means-ask, means-done, means-either, means-due, means-range}
 

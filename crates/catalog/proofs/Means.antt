@@ -8,7 +8,7 @@ use Rattle.numbers.proofs.Linking.{leads-says, leads-from}
 use Rattle.tree.specs.Tree.{Entry, All}
 use Rattle.disk.specs.Meaning.{Contents}
 use Rattle.catalog.specs.declared.fault.LayoutFault.{LayoutFault}
-use Rattle.catalog.specs.declared.fault.LayoutFault.TheVariants.{BadAddress, MetBefore}
+use Rattle.catalog.specs.declared.fault.LayoutFault.TheVariants.{BadAddress}
 use Rattle.catalog.specs.Catalogs.{Row, member, range}
 use Rattle.catalog.specs.Questions.{Sofar, Step, ask, onward, ◌▸◌, done, each, at, meet, list, link, length_at}
 use Rattle.catalog.proofs.Counts.{tick, occ, occ-append, tick_same, member-false, member-true, gather, spread}

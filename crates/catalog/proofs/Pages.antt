@@ -15,7 +15,7 @@ use Rattle.catalog.specs.declared.fault.LayoutFault.{LayoutFault}
 use Rattle.catalog.specs.declared.fault.LayoutFault.TheVariants.{BadMark, BadCount, BadAddress, BadLevel}
 use Rattle.catalog.specs.Catalogs.{Laid, bare, range}
 use Rattle.catalog.specs.Lays.{under, ItemsAt, Below, Children, FileAt}
-use Rattle.catalog.specs.Questions.{Sofar, Step, ask, onward, ◌▸◌, done, each, at, meet, rise, list, kind_at, link, ask_file, ask_entry, ask_page, extent, laid}
+use Rattle.catalog.specs.Questions.{Sofar, Step, ask, onward, ◌▸◌, each, at, meet, rise, list, kind_at, link, ask_file, ask_entry, ask_page, extent, laid}
 use Rattle.catalog.proofs.Counts.{length-range}
 use Rattle.catalog.proofs.Means.{line, Means, Can, After, means-iff, means-seq, means-ask, means-done, means-list, means-link, means-none, free-head}
 use Rattle.catalog.proofs.File.{file_rest, means-file}

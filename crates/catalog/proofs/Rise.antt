@@ -1,5 +1,5 @@
 -- The question whether a name rises, and names that do.
-use Rattle.std.proofs.Common.{◌≡◌, ℕ, ◌+◌, ◌≤◌, Bool, true, false, cond, ◌&&◌, List, [], ◌∷◌, length, replicate, Ok, Err, sym, refl, ap, ◌∙◌, subst, ap₂, inl, eqb, arith}
+use Rattle.std.proofs.Common.{◌≡◌, ℕ, Bool, true, false, cond, ◌&&◌, List, [], ◌∷◌, length, replicate, Ok, Err, sym, refl, ap, subst, ap₂, inl, eqb, arith}
 use Rattle.std.proofs.lemmas.Bool.{and_parts, and_from, eqb-true}
 use Rattle.numbers.specs.Names.{Key, every, good_name, name_field, name_in, is_name_field}
 use Rattle.numbers.specs.Order.{Cmp, below, same, above, cmp}
