@@ -2,6 +2,7 @@
 
 ghost use Rattle.catalog.specs.Laws.{FoundLaid, Unique, RefusedNone, Frame, FoundFrame};
 ghost use Rattle.catalog.specs.Laws.{MetSectors, Divides, Listed, LastLevel, FileAlone};
+ghost use Rattle.catalog.specs.Laws.{PageWritten, HeaderTyped, HeadWritten};
 
 /// What is found is what is laid: a catalog is found exactly when the contents hold it, they hold no other, and where a question has a
 /// no they hold none.
@@ -36,4 +37,11 @@ pub fn first_leaf_stands()
 /// A file of a catalog passes its questions when it is asked alone.
 pub fn file_stands()
     ensures { FileAlone }
+{}
+
+/// A page as it is written is laid, and so is a file whose first sector begins with its header.
+pub fn written_stands()
+    ensures page { PageWritten }
+    ensures header { HeaderTyped }
+    ensures head { HeadWritten }
 {}
