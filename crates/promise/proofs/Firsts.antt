@@ -1,5 +1,5 @@
 -- First sectors of a catalog's files: each entry leads to its own.
-use Rattle.std.proofs.Common.{◌≡◌, ℕ, zero, suc, ◌<◌, ◌≤◌, Bool, cond, List, [], ◌∷◌, ◌++◌, map, length, get_or, sym, refl, ap, ◌∙◌, subst, ap₂, inl, inr, arith}
+use Rattle.std.proofs.Common.{length-append, ◌≡◌, ℕ, zero, suc, ◌<◌, ◌≤◌, Bool, cond, List, [], ◌∷◌, ◌++◌, map, length, get_or, sym, refl, ap, ◌∙◌, subst, ap₂, inl, inr, arith}
 use Rattle.std.specs.Prelude.{slice_index}
 use Rattle.std.proofs.lemmas.List.{length-map}
 use Rattle.std.proofs.lemmas.Bool.{eq-eqb, ne_eqb}
@@ -95,3 +95,23 @@ found-file-at shown (x ∷ xs) (suc n) d h =
     ap (λ (b : Bool). cond b (record { bytes = bytes_of shown x; closed = x.long }) (found_file shown xs k))
     (ne_eqb (first_sector x) k (λ e. d.0 (subst (λ (y : ℕ). In y (map first_sector xs)) (sym e) (get-in (map first_sector xs) n 0 (subst (λ (m : ℕ). n < m) (sym (length-map xs first_sector)) (omega arith)))))) ∙
     found-file-at shown xs n d.1 (omega arith)
+
+pub entries-distinct : (size : ℕ) (shown : ℕ → Contents) (c : Catalog) → Lays size shown c → Distinct (map file_number (entries c))
+entries-distinct size shown c l = subst Distinct (sym (entries-first shown (entries c) c.files l.files)) (lays-distinct size shown c l)
+
+-- no more names than sectors of files
+extents-many : (xs : List Extent) → Begun xs → length xs ≤ length (extents_sectors xs)
+extents-many [] b = omega arith
+extents-many (x ∷ xs) b = let r = extents-many xs b.1 in let s = b.0 in let n = length-append x.parts (x.tabs ++ extents_sectors xs) in let m = length-append x.tabs (extents_sectors xs) in omega (arith, r, s, n, m)
+
+pub files-long : (shown : ℕ → Contents) (es : List (Entry Key)) (xs : List Extent) → FilesAt shown es xs → length xs ≡ length es
+files-long shown [] [] h = refl
+files-long shown [] (x ∷ xs) h = absurd h
+files-long shown (e ∷ es) [] h = absurd h
+files-long shown (e ∷ es) (x ∷ xs) h = ap suc (files-long shown es xs h.1)
+
+pub names-many : (size : ℕ) (shown : ℕ → Contents) (c : Catalog) → Lays size shown c → length (entries c) ≤ length (file_sectors c)
+names-many size shown c l =
+    let r = extents-many c.files (files-begun shown (entries c) c.files l.files) in
+    let n = files-long shown (entries c) c.files l.files in
+    omega (arith, r, n)

@@ -92,7 +92,7 @@ file-more (f ∷ fs) zero = refl
 file-more (f ∷ fs) (suc n) = file-more fs n
 
 -- NAMES
-number_in : (es : List (Entry Key)) (e : Entry Key) → In e es → In e.1 (map file_number es)
+pub number_in : (es : List (Entry Key)) (e : Entry Key) → In e es → In e.1 (map file_number es)
 number_in [] e i = i
 number_in (d ∷ es) e (inl q) = inl (ap file_number q)
 number_in (d ∷ es) e (inr j) = inr (number_in es e j)

@@ -13,3 +13,4 @@ pub mod Links
 pub mod StayTogether
 pub mod Firsts
 pub mod StartTogether
+pub mod StartProper

@@ -1,11 +1,10 @@
 -- An accepted Start leaves table and ledger together.
-use Rattle.std.proofs.Common.{◌≡◌, ℕ, zero, suc, ◌+◌, ◌<◌, List, [], ◌∷◌, map, length, get_or, sym, refl, ap, ◌∙◌, subst, ap₂, inl, inr, arith}
+use Rattle.std.proofs.Common.{◌≡◌, ℕ, zero, suc, ◌+◌, ◌<◌, List, [], ◌∷◌, map, length, get_or, sym, refl, ap, ◌∙◌, ap₂, inl, inr, arith}
 use Rattle.std.proofs.lemmas.List.{length-map, get_or-map}
 use Rattle.numbers.specs.Names.{Key}
 use Rattle.tree.specs.Tree.{Entry}
 use Rattle.disk.specs.Meaning.{Contents}
 use Rattle.catalog.specs.Catalogs.{Extent, Catalog, Distinct, entries, bytes_of}
-use Rattle.catalog.specs.Lays.{FilesAt}
 use Rattle.promise.specs.Table.{File, found_file, started}
 use Rattle.promise.specs.Ledger.{Written, Ledger, file_by, renumbered, restarted, file_number, Sane}
 use Rattle.promise.specs.Promise.{name_of, FilesAgree, Agrees}
@@ -13,13 +12,7 @@ use Rattle.promise.specs.Together.{Together, Live, entry_to}
 use Rattle.promise.proofs.Restarted.{refilled_at}
 use Rattle.promise.proofs.Slots.{no-slot}
 use Rattle.promise.proofs.StaySane.{renumbered-from}
-use Rattle.promise.proofs.Firsts.{entries-first, lays-distinct, distinct-same, no_extent, found-file-at}
-
-files-long : (shown : ℕ → Contents) (es : List (Entry Key)) (xs : List Extent) → FilesAt shown es xs → length xs ≡ length es
-files-long shown [] [] h = refl
-files-long shown [] (x ∷ xs) h = absurd h
-files-long shown (e ∷ es) [] h = absurd h
-files-long shown (e ∷ es) (x ∷ xs) h = ap suc (files-long shown es xs h.1)
+use Rattle.promise.proofs.Firsts.{entries-first, lays-distinct, entries-distinct, files-long, distinct-same, no_extent, found-file-at}
 
 -- the same names, with numbers for first sectors
 names-to : (k : ℕ) (es ds : List (Entry Key)) (g : ℕ → ℕ) → map name_of es ≡ map name_of ds → ((i : ℕ) → i < length es → g (k + i) ≡ get_or (map file_number es) i 0) → es ≡ map (entry_to g) (renumbered k ds)
@@ -58,7 +51,7 @@ starts l size shown c v a = record {
     sector n = get_or (map file_number (entries c)) n 0
 
     distinct : Distinct (map file_number (entries c))
-    distinct = subst Distinct (sym (entries-first shown (entries c) c.files a.lays.files)) (lays-distinct size shown c a.lays)
+    distinct = entries-distinct size shown c a.lays
 
     long : length (entries c) ≡ length l.names
     long = sym (length-map (entries c) name_of) ∙ (ap length a.names ∙ length-map l.names name_of)

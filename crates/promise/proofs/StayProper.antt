@@ -24,7 +24,7 @@ use Rattle.promise.proofs.Slots.{slot-set, holder-holds, holder-none, anonymous-
 use Rattle.promise.proofs.Entries.{put-in, put-long, without-in, without-long}
 
 -- PARTS. Fewer free sectors; another slot; another file; another tree
-waits-proper : (t : Table) → Proper t → Proper (waits t)
+pub waits-proper : (t : Table) → Proper t → Proper (waits t)
 waits-proper t p = record { eight = p.eight; handles = p.handles; one = p.one; lengths = p.lengths; good = p.good; names = p.names; held = p.held; single = p.single; apart = p.apart; room = p.room }
 
 less-free : (t : Table) (n : ℕ) → n ≤ t.free → Proper t → Proper (with_free n t)

@@ -4,9 +4,10 @@ use Rattle.numbers.specs.Names.{Key}
 use Rattle.tree.specs.Tree.{Entry}
 use Rattle.disk.specs.Meaning.{Contents}
 use Rattle.catalog.specs.Catalogs.{Catalog, bytes_of}
+use Rattle.catalog.specs.Laws.{Sized}
 use Rattle.promise.specs.declared.fault.FileFault.{FileFault}
 use Rattle.promise.specs.Faults.{is_three}
-use Rattle.promise.specs.Table.{Table, Call, Answer, No, first, before, behind, plain, waits, Turn, Format, formatted, started, no_slots, Proper}
+use Rattle.promise.specs.Table.{Table, Call, Answer, No, first, before, behind, plain, waits, Turn, Format, Start, formatted, started, no_slots, Proper}
 use Rattle.promise.specs.Ledger.{Ledger, blank, numbered, file_by, follow, wiping, Resolves, restarted, Sane}
 use Rattle.promise.specs.Promise.{name_of, Agrees}
 use Rattle.promise.specs.Calls.{says_three}
@@ -16,6 +17,7 @@ use Rattle.promise.specs.Together.{Together, taken, freed}
 pub record StaysProper : Type 0 where
   pub turns : (t t' : Table) (c : Call) (a : Answer) → Proper t → Turn t c a t' → Proper t'
   pub formats : (size : ℕ) (t t' : Table) (a : Answer) → Proper t → Format size t a t' → Proper t'
+  pub starts : (size : ℕ) (shown : ℕ → Contents) (t t' : Table) (a : Answer) → Sized size shown → Proper t → Start size shown t a t' → Proper t'
 
 -- an accepted call takes no more than is free, and the free sectors are what they were, less those taken, and those set free
 abbrev pub Accounts : Type 0
