@@ -13,7 +13,7 @@ by_no size shown e h = ap (given size shown (catalog size shown)) h
 
 accepted : Accepted
 unfolding found asked catalog ask_table ask_file first_leaf ask_page extent laid range
-accepted = record { new = refl; two = refl; long = refl }
+accepted = record { fewest = refl; most = refl; two = refl; long = refl }
 
 sizes : BadSizes
 unfolding asked ask_table ask_file first_leaf ask_page range

@@ -108,8 +108,12 @@ over_page list = page_of (address 2) (entry 12 10 3 ∷ []) ∷ list
 abbrev pub inner : ℕ → ℕ → Contents
 inner count first = raw_page page_mark count (address first) zeros []
 
+abbrev pub empty_catalog : Catalog
+empty_catalog = record { over = 0; root = (1, page tt []); files = [] }
+
 pub record Accepted : Type 0 where
-  pub new : found 3 (disk (page_of 0 [] ∷ [])) ≡ Ok (record { over = 0; root = (1, page tt []); files = [] })
+  pub fewest : found 3 (disk (page_of 0 [] ∷ [])) ≡ Ok empty_catalog
+  pub most : found 16384 (disk (page_of 0 [] ∷ [])) ≡ Ok empty_catalog
   pub two : Holds two_leaves two_leaves_catalog
   pub long : Holds (one_file (long_file (address 3 ∷ []) ∷ stored_all (address 67 ∷ []) ∷ [])) long_file_catalog
 
