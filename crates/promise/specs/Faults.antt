@@ -1,5 +1,5 @@
 -- The refusals of the store's calls, with the number and the values of each stated case by case.
-use Rattle.std.specs.Prelude.{ℕ, Bool, true, false}
+use Rattle.std.specs.Prelude.{ℕ, Bool, is_some, Some, None, Option}
 use Rattle.disk.specs.declared.fault.DiskFault.{DiskFault}
 use Rattle.catalog.specs.declared.fault.LayoutFault.{LayoutFault}
 use Rattle.catalog.specs.declared.fault.VolumeFault.{VolumeFault}
@@ -39,18 +39,22 @@ by_disk f = Volume (Disk f)
 abbrev pub by_layout : LayoutFault → FileFault
 by_layout e = Volume (Layout e)
 
-abbrev pub is_disk_fault : VolumeFault → Bool
-is_disk_fault (Disk f) = true
-is_disk_fault (Layout e) = false
+-- the fault of the disk that a refusal carries
+abbrev pub volume_fault : VolumeFault → Option DiskFault
+volume_fault (Disk f) = Some f
+volume_fault (Layout e) = None
+
+abbrev pub disk_fault : FileFault → Option DiskFault
+disk_fault (Volume v) = volume_fault v
+disk_fault Waiting = None
+disk_fault BadName = None
+disk_fault BadSlot = None
+disk_fault Absent = None
+disk_fault Full = None
+disk_fault Nameless = None
+disk_fault TooLong = None
+disk_fault NoRoom = None
 
 -- is it a 3?
 abbrev pub is_three : FileFault → Bool
-is_three (Volume v) = is_disk_fault v
-is_three Waiting = false
-is_three BadName = false
-is_three BadSlot = false
-is_three Absent = false
-is_three Full = false
-is_three Nameless = false
-is_three TooLong = false
-is_three NoRoom = false
+is_three r = is_some (disk_fault r)

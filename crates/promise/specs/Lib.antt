@@ -2,6 +2,7 @@ pub mod Faults
 pub mod Table
 pub mod Ledger
 pub mod Promise
+pub mod Asked
 pub mod Calls
 pub mod Together
 pub mod Laws

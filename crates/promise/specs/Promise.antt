@@ -4,6 +4,7 @@ use Rattle.std.specs.Prelude.{◌≡◌, ℕ, Bool, true, false, List, [], ◌�
 use Rattle.numbers.specs.Names.{Key}
 use Rattle.tree.specs.Tree.{Entry}
 use Rattle.disk.specs.Meaning.{Contents, Meaning, In}
+use Rattle.disk.specs.Rules.{Fewer}
 use Rattle.catalog.specs.Catalogs.{Extent, Catalog, entries, bytes_of, Divided}
 use Rattle.catalog.specs.Lays.{Lays}
 use Rattle.catalog.specs.Questions.{found}
@@ -74,8 +75,8 @@ module _ (Formats : View → Answer → View → Type 0) (Did : View → Call �
     -- an accepted one: from here on the run goes by the ledger that it agreed with, at all later Starts
     started : {l l' : Ledger} {v v' : View} {c : Catalog} → Run l v → Starts v Done v' → Resolves l l' → Agrees l' v'.disk.size v'.disk.shown c →
         Run (restarted l' (map (bytes_of v'.disk.shown) c.files)) v'
-    -- the memory is lost, and a store is made anew over the same disk
-    anew : {l : Ledger} {v v' : View} → Run l v → v'.ready ≡ false → v'.disk ≡ v.disk → Run l v'
+    -- the memory is lost, that of the disk's layers too, and a store is made anew over what may be left of the disk
+    anew : {l : Ledger} {v v' : View} → Run l v → v'.ready ≡ false → v'.disk.size ≡ v.disk.size → Fewer v.disk v'.disk → Run l v'
 
   -- THE WHOLE PROMISE, for Start's contract. A disk call that was gone leaves the disk not live, and Start restarts it once, before
   -- all else: so none was gone if the disk is live after it
