@@ -32,7 +32,7 @@ module _ (E : ℕ → Type 0) where
   children f P Q g (page c xs) e h = (g c (λ s i. e s (in_left s (f c) _ i)) h.0, items f P Q g xs (λ s i. e s (in_right s (f c) _ i)) h.1)
 
 module _ (shown shown' : ℕ → Contents) where
-  laid-same : (n : ℕ) (t : Laid n) → ((s : ℕ) → In s (sectors_laid n t) → shown' s ≡ shown s) → LaidAt shown n t → LaidAt shown' n t
+  pub laid-same : (n : ℕ) (t : Laid n) → ((s : ℕ) → In s (sectors_laid n t) → shown' s ≡ shown s) → LaidAt shown n t → LaidAt shown' n t
   laid-same zero t e h = tt
   laid-same (suc n) t e h = (
     subst (λ (c : Contents). PageAt n c t.1) (sym (e t.0 (inl refl))) h.0,
@@ -49,7 +49,7 @@ module _ (shown shown' : ℕ → Contents) where
       let s = at (i + 3) (omega arith) in
       cc
 
-  file-same : (s : ℕ) (x : Extent) → take header_size (shown' (get_or x.parts 0 0)) ≡ take header_size (shown (get_or x.parts 0 0)) →
+  pub file-same : (s : ℕ) (x : Extent) → take header_size (shown' (get_or x.parts 0 0)) ≡ take header_size (shown (get_or x.parts 0 0)) →
       ((k j : ℕ) → j < table_sectors → near_sectors + table_sectors * k + j < length x.parts → word (shown' (get_or x.tabs k 0)) (word_size * j) ≡ word (shown (get_or x.tabs k 0)) (word_size * j)) →
       FileAt shown s x → FileAt shown' s x
   file-same s x e t h =

@@ -1,0 +1,5 @@
+pub mod Steps
+pub mod Lists
+pub mod Agreement
+pub mod Wider
+pub mod Harmless

@@ -1,0 +1,5 @@
+pub mod Picks
+pub mod Steps
+pub mod Wider
+pub mod Harmless
+pub mod Turning

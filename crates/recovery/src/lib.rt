@@ -1,0 +1,41 @@
+//! What a power stop may leave of a volume at each disk call of the store, and that its calls count whole or not at all.
+#![tactic(auto)]
+
+ghost use Rattle.recovery.specs.Picks.{SteadyRecoverable, AgreesFrame, SettledSteady};
+ghost use Rattle.recovery.specs.Steps.{AreSteps, OnePut, LessSteady, LessRecoverable};
+ghost use Rattle.recovery.specs.Wider.{WiderSteady, BreaksWider, CountsWider, CloseWider};
+ghost use Rattle.recovery.specs.Harmless.{PutSteady, OutsideHarmless, BytesHarmless, TableHarmless, WritingHarmless, WroteWider, LocalSteady};
+
+/// Every call of a disk is a step on the picks, and what steps leave.
+pub fn steps_stand()
+    ensures steps { AreSteps }
+    ensures put { OnePut }
+    ensures steady { LessSteady }
+    ensures recoverable { LessRecoverable }
+{}
+
+/// A steady disk is recoverable, and a settled one is steady where what is shown agrees.
+pub fn picks_stand()
+    ensures recoverable { SteadyRecoverable }
+    ensures frame { AgreesFrame }
+    ensures settled { SettledSteady }
+    ensures local { LocalSteady }
+{}
+
+/// Which calls take nothing from the ledger, and that a steady disk stays so for such a ledger.
+pub fn wider_stands()
+    ensures steady { WiderSteady }
+    ensures breaks { BreaksWider }
+    ensures counts { CountsWider }
+    ensures close { CloseWider }
+    ensures wrote { WroteWider }
+{}
+
+/// Which puts are harmless, and that they leave a steady disk so.
+pub fn harmless_stands()
+    ensures steady { PutSteady }
+    ensures outside { OutsideHarmless }
+    ensures bytes { BytesHarmless }
+    ensures table { TableHarmless }
+    ensures write { WritingHarmless }
+{}
