@@ -3,3 +3,4 @@ pub mod Lists
 pub mod Agreement
 pub mod Wider
 pub mod Harmless
+pub mod Turning

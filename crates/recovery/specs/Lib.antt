@@ -3,3 +3,4 @@ pub mod Steps
 pub mod Wider
 pub mod Harmless
 pub mod Turning
+pub mod Owed

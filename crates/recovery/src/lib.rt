@@ -5,6 +5,8 @@ ghost use Rattle.recovery.specs.Picks.{SteadyRecoverable, AgreesFrame, SettledSt
 ghost use Rattle.recovery.specs.Steps.{AreSteps, OnePut, LessSteady, LessRecoverable};
 ghost use Rattle.recovery.specs.Wider.{WiderSteady, BreaksWider, CountsWider, CloseWider};
 ghost use Rattle.recovery.specs.Harmless.{PutSteady, OutsideHarmless, BytesHarmless, TableHarmless, WritingHarmless, WroteWider, LocalSteady};
+ghost use Rattle.recovery.specs.Turning.{PutTurns, StoppedRecoverable, TurningRecoverable, TurningSteady};
+ghost use Rattle.recovery.specs.Turning.{WipingRecoverable, FormatRecoverable, FormatSteady, RestartRecovers, StartedSteady};
 
 /// Every call of a disk is a step on the picks, and what steps leave.
 pub fn steps_stand()
@@ -38,4 +40,25 @@ pub fn harmless_stands()
     ensures bytes { BytesHarmless }
     ensures table { TableHarmless }
     ensures write { WritingHarmless }
+{}
+
+/// The Put of Register, Close and Delete that turns one catalog into another.
+pub fn turning_stands()
+    ensures put { PutTurns }
+    ensures stopped { StoppedRecoverable }
+    ensures recoverable { TurningRecoverable }
+    ensures steady { TurningSteady }
+{}
+
+/// The same of Format, which counts whole or not at all too.
+pub fn format_stands()
+    ensures stopped { WipingRecoverable }
+    ensures recoverable { FormatRecoverable }
+    ensures steady { FormatSteady }
+{}
+
+/// What a Start finds, and that the store goes on from it.
+pub fn start_stands()
+    ensures recovers { RestartRecovers }
+    ensures steady { StartedSteady }
 {}
