@@ -4,3 +4,5 @@ pub mod Agreement
 pub mod Wider
 pub mod Harmless
 pub mod Turning
+pub mod Calls
+pub mod Owed

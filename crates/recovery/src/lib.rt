@@ -7,6 +7,7 @@ ghost use Rattle.recovery.specs.Wider.{WiderSteady, BreaksWider, CountsWider, Cl
 ghost use Rattle.recovery.specs.Harmless.{PutSteady, OutsideHarmless, BytesHarmless, TableHarmless, WritingHarmless, WroteWider, LocalSteady};
 ghost use Rattle.recovery.specs.Turning.{PutTurns, StoppedRecoverable, TurningRecoverable, TurningSteady};
 ghost use Rattle.recovery.specs.Turning.{WipingRecoverable, FormatRecoverable, FormatSteady, RestartRecovers, StartedSteady};
+ghost use Rattle.recovery.specs.Owed.{DeleteTurns, RegisterTurns, CloseTurns, SaneGives};
 
 /// Every call of a disk is a step on the picks, and what steps leave.
 pub fn steps_stand()
@@ -61,4 +62,12 @@ pub fn format_stands()
 pub fn start_stands()
     ensures recovers { RestartRecovers }
     ensures steady { StartedSteady }
+{}
+
+/// What Delete, Register and Close owe at their Put, told of what they hold, makes it one that turns.
+pub fn owed_stand()
+    ensures delete { DeleteTurns }
+    ensures register { RegisterTurns }
+    ensures close { CloseTurns }
+    ensures ledger { SaneGives }
 {}
