@@ -8,6 +8,7 @@ use Rattle.disk.specs.Meaning.{Contents, Meaning, In}
 use Rattle.catalog.specs.Catalogs.{Extent, Catalog, entries, page_sectors, file_sectors, range, byte_at, bytes_of}
 use Rattle.catalog.specs.Lays.{FileAt, FilesAt, Lays}
 use Rattle.catalog.specs.Laws.{SameRead, Named, here, later}
+use Rattle.catalog.proofs.File.{tables-over}
 use Rattle.catalog.proofs.Frame.{frame, in_left, in_right}
 use Rattle.promise.specs.Ledger.{Written, Ledger, file_by, possible_at, mended, never}
 use Rattle.promise.specs.Promise.{Among, FileAgrees, FilesAgree, Agrees, name_of}
@@ -15,7 +16,7 @@ use Rattle.recovery.specs.Picks.{Picks, with_sector, SteadyRecoverable, AgreesFr
 use Rattle.recovery.specs.Steps.{Over}
 use Rattle.recovery.specs.Wider.{Grows, Wider, WiderSteady}
 use Rattle.recovery.specs.Harmless.{sector_of, Harmless, PutSteady, Local, LocalSteady}
-use Rattle.recovery.proofs.Lists.{get_or-in, tables-over, parts_in, tabs_in, entry_in, file_in}
+use Rattle.recovery.proofs.Lists.{get_or-in, parts_in, tabs_in, entry_in, file_in}
 use Rattle.recovery.proofs.Steps.{sector-here, sector-apart, one-or, one-put}
 
 -- BYTES

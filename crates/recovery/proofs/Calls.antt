@@ -11,6 +11,7 @@ use Rattle.disk.specs.Meaning.{Contents, In}
 use Rattle.catalog.specs.Catalogs.{Extent, Catalog, entries, page_sectors, extents_sectors, file_sectors, Distinct, range, byte_at, bytes_of}
 use Rattle.catalog.specs.Lays.{FileAt, FilesAt, Lays}
 use Rattle.catalog.specs.Laws.{Named, here, later}
+use Rattle.catalog.proofs.File.{tables-over}
 use Rattle.catalog.proofs.Frame.{laid-same, file-same}
 use Rattle.promise.specs.Table.{Delete, Register, Close}
 use Rattle.promise.specs.Ledger.{Written, no_file, Ledger, file_by, possible_at, slot_of, file_of, closing, counts}
@@ -18,7 +19,7 @@ use Rattle.promise.specs.Promise.{Among, FileAgrees, FilesAgree, Agrees, name_of
 use Rattle.recovery.specs.Picks.{with_sector}
 use Rattle.recovery.specs.Harmless.{sector_of}
 use Rattle.recovery.specs.Owed.{but, placed, no_entry, no_extent, with_extent}
-use Rattle.recovery.proofs.Lists.{Own, own_in, own-apart, rest, distinct_apart, distinct-right, get_or-in, tables-over, entry_in, file_in}
+use Rattle.recovery.proofs.Lists.{Own, own_in, own-apart, rest, distinct_apart, distinct-right, get_or-in, entry_in, file_in}
 use Rattle.recovery.proofs.Steps.{sector-here, sector-apart}
 use Rattle.recovery.proofs.Agreement.{file-move, files-move, laid}
 

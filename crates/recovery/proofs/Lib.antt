@@ -6,3 +6,5 @@ pub mod Harmless
 pub mod Turning
 pub mod Calls
 pub mod Owed
+pub mod Divided
+pub mod Kept

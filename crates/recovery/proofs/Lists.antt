@@ -1,7 +1,5 @@
 -- Lists of numbers that stand once, and where the sectors of files are.
 use Rattle.std.proofs.Common.{◌≡◌, ℕ, zero, suc, ◌+◌, ◌*◌, ◌<◌, ◌≤◌, ◌⊎◌, List, [], ◌∷◌, ◌++◌, length, get_or, sym, refl, ap, ◌∙◌, subst, inl, inr, arith}
-use Rattle.std.proofs.lemmas.Bool.{le-ltb}
-use Rattle.numbers.specs.Lengths.{near_sectors, table_sectors, tables}
 use Rattle.numbers.specs.Names.{Key}
 use Rattle.tree.specs.Tree.{Entry}
 use Rattle.disk.specs.Meaning.{In}
@@ -94,10 +92,6 @@ own-distinct (z ∷ xs) x d (inl e) = subst (λ (y : Extent). Distinct (y.parts 
     both [] b r h = distinct-left b r h
     both (y ∷ a) b r h = (λ i. h.0 (shorter y a b r i), both a b r h.1)
 own-distinct (z ∷ xs) x d (inr i) = own-distinct xs x (rest z xs d) i
-
--- a table that has the address of a file sector in use is one of the file's tables
-pub tables-over : (a k : ℕ) → near_sectors + table_sectors * k ≤ a → k < tables a
-tables-over a k h = rw (le-ltb a 64 (omega arith)) (omega arith)
 
 -- ENTRIES AND THEIR FILES
 pub entry_in : {e : Entry Key} {x : Extent} {ns : List (Entry Key)} {xs : List Extent} → Named e x ns xs → In e ns

@@ -4,3 +4,4 @@ pub mod Wider
 pub mod Harmless
 pub mod Turning
 pub mod Owed
+pub mod Kept

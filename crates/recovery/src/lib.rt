@@ -8,6 +8,7 @@ ghost use Rattle.recovery.specs.Harmless.{PutSteady, OutsideHarmless, BytesHarml
 ghost use Rattle.recovery.specs.Turning.{PutTurns, StoppedRecoverable, TurningRecoverable, TurningSteady};
 ghost use Rattle.recovery.specs.Turning.{WipingRecoverable, FormatRecoverable, FormatSteady, RestartRecovers, StartedSteady};
 ghost use Rattle.recovery.specs.Owed.{DeleteTurns, RegisterTurns, CloseTurns, SaneGives};
+ghost use Rattle.recovery.specs.Kept.{RunKept, RunSize, RunPromise};
 
 /// Every call of a disk is a step on the picks, and what steps leave.
 pub fn steps_stand()
@@ -70,4 +71,11 @@ pub fn owed_stand()
     ensures register { RegisterTurns }
     ensures close { CloseTurns }
     ensures ledger { SaneGives }
+{}
+
+/// A run keeps what its store keeps in each call, and so gives the whole promise to every Start.
+pub fn run_stands()
+    ensures kept { RunKept }
+    ensures size { RunSize }
+    ensures promise { RunPromise }
 {}
