@@ -4,7 +4,7 @@ use Rattle.numbers.specs.Lengths.{place, header_size, near_sectors, table_sector
 use Rattle.numbers.specs.Names.{Key}
 use Rattle.layout.specs.Words.{word_size, word}
 use Rattle.tree.specs.Tree.{Entry}
-use Rattle.disk.specs.Meaning.{Contents, Meaning, In}
+use Rattle.disk.specs.Meaning.{Contents, In}
 use Rattle.catalog.specs.Catalogs.{Extent, Catalog, entries, page_sectors, file_sectors, range, byte_at, bytes_of}
 use Rattle.catalog.specs.Lays.{FileAt, FilesAt, Lays}
 use Rattle.catalog.specs.Laws.{SameRead, Named, here, later}
@@ -15,7 +15,7 @@ use Rattle.promise.specs.Promise.{Among, FileAgrees, FilesAgree, Agrees, name_of
 use Rattle.recovery.specs.Picks.{Picks, with_sector, SteadyRecoverable, AgreesFrame, SettledSteady}
 use Rattle.recovery.specs.Steps.{Over}
 use Rattle.recovery.specs.Wider.{Grows, Wider, WiderSteady}
-use Rattle.recovery.specs.Harmless.{sector_of, Harmless, PutSteady, Local, LocalSteady}
+use Rattle.recovery.specs.Harmless.{sector_of, Harmless, PutSteady, LocalSteady}
 use Rattle.recovery.proofs.Lists.{get_or-in, parts_in, tabs_in, entry_in, file_in}
 use Rattle.recovery.proofs.Steps.{sector-here, sector-apart, one-or, one-put}
 

@@ -1,5 +1,5 @@
 -- Close, Delete and Register: the catalog after the put that turns agrees with the ledger after the call.
-use Rattle.std.proofs.Common.{◌≡◌, ℕ, zero, suc, ◌+◌, ◌*◌, ◌<◌, ◌≤◌, Bool, true, false, ◌⊎◌, List, [], ◌∷◌, ◌++◌, map, length, get_or, take, set, sym, refl, ap, ◌∙◌, subst, inl, inr, arith}
+use Rattle.std.proofs.Common.{◌≡◌, ℕ, zero, suc, ◌+◌, ◌*◌, ◌<◌, ◌≤◌, Bool, true, false, List, [], ◌∷◌, ◌++◌, map, length, get_or, take, set, sym, refl, ap, ◌∙◌, subst, inl, inr, arith}
 use Rattle.std.proofs.lemmas.List.{get_or-set_other, get_or-set_same}
 use Rattle.numbers.specs.Lengths.{place, header_size, near_sectors, table_sectors, last_sector}
 use Rattle.numbers.specs.Names.{Key}
@@ -20,7 +20,7 @@ use Rattle.recovery.specs.Picks.{with_sector}
 use Rattle.recovery.specs.Harmless.{sector_of}
 use Rattle.recovery.specs.Owed.{but, placed, no_entry, no_extent, with_extent}
 use Rattle.recovery.proofs.Lists.{Own, own_in, own-apart, rest, distinct_apart, distinct-right, get_or-in, entry_in, file_in}
-use Rattle.recovery.proofs.Steps.{sector-here, sector-apart}
+use Rattle.recovery.proofs.Steps.{sector-apart}
 use Rattle.recovery.proofs.Agreement.{file-move, files-move, laid}
 
 -- A FILE WHOSE SECTORS STAY
@@ -41,12 +41,12 @@ among_self : (bs : List ℕ) → Among bs (map (λ (b : ℕ). b ∷ []) bs)
 among_self [] = tt
 among_self (b ∷ bs) = (inl refl, among_self bs)
 
-long_of : (f : ℕ → ℕ) (from n : ℕ) → length (map f (range from n)) ≡ n
+pub long_of : (f : ℕ → ℕ) (from n : ℕ) → length (map f (range from n)) ≡ n
 unfolding range
 long_of f from zero = refl
 long_of f from (suc n) = ap suc (long_of f (suc from) n)
 
-closed-agrees : (s : ℕ → Contents) (w : Written) (x : Extent) → bytes_of s x ≡ w.bytes → FileAgrees s (closing w) x
+pub closed-agrees : (s : ℕ → Contents) (w : Written) (x : Extent) → bytes_of s x ≡ w.bytes → FileAgrees s (closing w) x
 unfolding bytes_of
 closed-agrees s w x e = (
   sym (long_of (byte_at s x) 0 x.long) ∙ ap (λ (z : List ℕ). length z) e,

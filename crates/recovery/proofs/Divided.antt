@@ -1,5 +1,5 @@
 -- After an accepted Start the sectors of the catalog and the free ones are all from 1 up.
-use Rattle.std.proofs.Common.{◌≡◌, ℕ, zero, suc, ◌+◌, ◌-◌, ◌<◌, ◌≤◌, Bool, true, false, cond, eqb, ◌⊎◌, List, [], ◌∷◌, ◌++◌, map, length, replicate, Some, None, Ok, Err, Option, sym, refl, ap, ◌∙◌, subst, inl, inr, arith, length-append}
+use Rattle.std.proofs.Common.{◌≡◌, ℕ, zero, suc, ◌+◌, ◌-◌, ◌<◌, ◌≤◌, Bool, true, cond, eqb, List, [], ◌∷◌, ◌++◌, map, length, replicate, Some, None, Option, sym, refl, ap, ◌∙◌, subst, inl, inr, arith, length-append}
 use Rattle.std.proofs.lemmas.Bool.{eq-eqb, ne_eqb}
 use Rattle.disk.specs.Meaning.{Contents, In}
 use Rattle.catalog.specs.Catalogs.{Extent, Catalog, Distinct, Divided, range, page_sectors, file_sectors, extents_sectors}
@@ -9,7 +9,7 @@ use Rattle.catalog.specs.Laws.{Sized}
 use Rattle.catalog.proofs.Counts.{occ, occ-append, distinct-occ, occ-distinct, length-range}
 use Rattle.catalog.proofs.Frame.{in_left, in_right}
 use Rattle.catalog.proofs.Found.{unique}
-use Rattle.promise.specs.Table.{Slot, Table, slot_count, no_slots, started}
+use Rattle.promise.specs.Table.{Table, slot_count, no_slots, started}
 use Rattle.promise.specs.Promise.{Open, View}
 use Rattle.promise.specs.Calls.{slot_in, seen, OpenAs, unopened, Holds}
 use Rattle.recovery.proofs.Lists.{in_split}

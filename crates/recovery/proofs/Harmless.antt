@@ -12,13 +12,13 @@ use Rattle.catalog.specs.Catalogs.{Extent, Catalog, page_sectors, file_sectors, 
 use Rattle.catalog.specs.Lays.{Lays}
 use Rattle.catalog.specs.Laws.{Named, here, later}
 use Rattle.catalog.proofs.Frame.{in_left}
-use Rattle.promise.specs.Table.{Rider, Write}
-use Rattle.promise.specs.Ledger.{Written, no_file, Ledger, file_by, possible_at, slot_of, file_of, from, carried, counts, breaks}
+use Rattle.promise.specs.Table.{Write}
+use Rattle.promise.specs.Ledger.{Written, no_file, Ledger, file_by, possible_at, slot_of, file_of, from, carried, breaks}
 use Rattle.promise.specs.Promise.{Among, FileAgrees, FilesAgree, Agrees}
-use Rattle.recovery.specs.Wider.{Grows, Wider}
-use Rattle.recovery.specs.Harmless.{sector_of, Harmless, OutsideHarmless, BytesHarmless, TableHarmless, Writing, WritingHarmless, WroteWider}
+use Rattle.recovery.specs.Wider.{Grows}
+use Rattle.recovery.specs.Harmless.{sector_of, Harmless, OutsideHarmless, BytesHarmless, TableHarmless, WritingHarmless, WroteWider}
 use Rattle.recovery.proofs.Lists.{get_or-in, distinct_apart, distinct-left, distinct-right, distinct-at, parts_in, tabs_in, one-extent, own-distinct, one-pair, file_in}
-use Rattle.recovery.proofs.Agreement.{grows, laid, head_in, part-below, byte_in, tab-below, tab_in, part-all, tab-all}
+use Rattle.recovery.proofs.Agreement.{grows, head_in, part-below, byte_in, tab-below, tab_in, part-all, tab-all}
 use Rattle.recovery.proofs.Wider.{carried-long}
 
 pub outside-harmless : OutsideHarmless

@@ -1,18 +1,17 @@
 -- A run keeps what its store keeps, and gives the whole promise by it.
-use Rattle.std.proofs.Common.{◌≡◌, ℕ, ◌<◌, Bool, true, false, Ok, Err, sym, refl, ap, ◌∙◌, subst, arith}
+use Rattle.std.proofs.Common.{◌≡◌, ℕ, Bool, true, false, Ok, sym, refl, ap, subst, arith}
 use Rattle.disk.specs.Meaning.{Contents, Meaning}
 use Rattle.catalog.specs.Catalogs.{Catalog}
-use Rattle.catalog.specs.Lays.{Lays}
 use Rattle.catalog.specs.Laws.{Sized}
 use Rattle.catalog.specs.Questions.{good_size, found}
 use Rattle.catalog.proofs.Found.{found-laid-both}
-use Rattle.promise.specs.Table.{Table, Answer, Done, No, Format, Start, gone, bad, done}
+use Rattle.promise.specs.Table.{Table, Answer, Done, Format, Start, gone, bad, done}
 use Rattle.promise.specs.Table.{formatted as empty_table, started as started_table}
 use Rattle.promise.specs.Ledger.{Ledger}
-use Rattle.promise.specs.Promise.{View, Run, formatted, unformatted, turned, stopped, started, anew, Agrees, Finds, Whole}
+use Rattle.promise.specs.Promise.{View, Run, formatted, unformatted, turned, stopped, started, anew, Finds, Whole}
 use Rattle.promise.specs.Calls.{says_three, Holds, Formatted, Did, Starts}
 use Rattle.recovery.specs.Picks.{Recovers, Recoverable}
-use Rattle.recovery.specs.Kept.{Kept, Runs, RunKept, RunSize, RunPromise}
+use Rattle.recovery.specs.Kept.{Kept, RunKept, RunSize, RunPromise}
 use Rattle.recovery.proofs.Steps.{resized}
 use Rattle.recovery.proofs.Wider.{not-both}
 use Rattle.recovery.proofs.Divided.{started-divided}

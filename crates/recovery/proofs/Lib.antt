@@ -8,3 +8,5 @@ pub mod Calls
 pub mod Owed
 pub mod Divided
 pub mod Kept
+pub mod Cards
+pub mod Fresh

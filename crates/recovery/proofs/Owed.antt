@@ -1,20 +1,18 @@
 -- From what a call owes to the put that turns.
-use Rattle.std.proofs.Common.{◌≡◌, ℕ, zero, suc, ◌+◌, ◌<◌, ◌≤◌, Bool, true, false, ◌⊎◌, List, [], ◌∷◌, ◌++◌, map, length, get_or, set, Some, None, sym, refl, ap, ◌∙◌, subst, inl, inr, arith}
+use Rattle.std.proofs.Common.{◌≡◌, ℕ, zero, suc, ◌<◌, ◌≤◌, Bool, true, false, ◌⊎◌, List, [], ◌∷◌, ◌++◌, map, length, get_or, set, sym, refl, ap, ◌∙◌, subst, inl, inr, arith}
 use Rattle.numbers.specs.Names.{Key, good_name}
 use Rattle.numbers.specs.Order.{Cmp, below, same, above, cmp}
 use Rattle.tree.specs.Tree.{Entry, pick, All}
 use Rattle.tree.specs.Laws.{put, without}
-use Rattle.disk.specs.Meaning.{Contents, Meaning, In}
+use Rattle.disk.specs.Meaning.{Contents, In}
 use Rattle.catalog.specs.Catalogs.{Extent, Catalog, entries, page_sectors, extents_sectors, file_sectors, Distinct}
-use Rattle.catalog.specs.Lays.{FileAt, FilesAt, Lays, root_sector}
-use Rattle.catalog.specs.Laws.{Named, here, later}
+use Rattle.catalog.specs.Lays.{FileAt, FilesAt, root_sector}
 use Rattle.catalog.proofs.Frame.{in_left, in_right}
-use Rattle.promise.specs.Table.{Slot, the_slot, Anonymous, Delete, Register, Close}
-use Rattle.promise.specs.Ledger.{Ledger, slot_of, file_number, Sane}
+use Rattle.promise.specs.Table.{Slot, the_slot}
+use Rattle.promise.specs.Ledger.{Ledger, slot_of, file_number}
 use Rattle.promise.specs.Promise.{Agrees, name_of}
 use Rattle.recovery.specs.Picks.{with_sector}
-use Rattle.recovery.specs.Turning.{Turning}
-use Rattle.recovery.specs.Owed.{but, placed, no_entry, no_extent, with_extent, without_at, put_at, Before, Owned, Directory, DeleteOwes, DeleteTurns, RegisterOwes, RegisterTurns, CloseOwes, CloseTurns, SaneGives}
+use Rattle.recovery.specs.Owed.{but, placed, no_entry, without_at, put_at, Directory, DeleteTurns, RegisterTurns, CloseTurns, SaneGives}
 use Rattle.recovery.proofs.Lists.{Own, own_in, own-apart, own-distinct, rest, in_split, join, distinct_apart, distinct-left, distinct-right, get_or-in, file_in}
 use Rattle.recovery.proofs.Steps.{sector-apart}
 use Rattle.recovery.proofs.Calls.{at-move, file-stays, closing-agrees, deleting-agrees, registering-agrees}

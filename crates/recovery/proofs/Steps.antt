@@ -1,13 +1,12 @@
 -- Steps on the picks, and the rule of one put.
-use Rattle.std.proofs.Common.{◌≡◌, ℕ, ◌<◌, ◌≤◌, Bool, true, false, cond, eqb, ◌⊎◌, Ok, Err, sym, refl, ap, ◌∙◌, subst, inl, inr, arith}
+use Rattle.std.proofs.Common.{◌≡◌, ℕ, ◌<◌, Bool, true, false, cond, eqb, ◌⊎◌, sym, refl, ap, ◌∙◌, subst, inl, inr, arith}
 use mathlib.Core.Path.{fun_ext}
 use Rattle.std.proofs.lemmas.Bool.{eqb-true, eqb-false, eq-eqb, ne_eqb, cases_lt}
 use Rattle.disk.specs.Meaning.{Contents, Meaning, In}
-use Rattle.disk.specs.Rules.{Answer, Gets, Puts, Settles, Restarts}
-use Rattle.catalog.specs.Catalogs.{Catalog}
+use Rattle.disk.specs.Rules.{Answer, Puts}
 use Rattle.promise.specs.Ledger.{Ledger}
 use Rattle.promise.specs.Promise.{Agrees}
-use Rattle.recovery.specs.Picks.{Picks, NonEmpty, with_sector, Steady, Recovers, Recoverable}
+use Rattle.recovery.specs.Picks.{Picks, with_sector, Recovers}
 use Rattle.recovery.specs.Steps.{Less, Plus, AreSteps, Over, OnePut, LessSteady, LessRecoverable}
 
 -- a put past the last sector adds nothing

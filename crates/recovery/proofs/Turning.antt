@@ -1,19 +1,19 @@
 -- The put that turns one catalog into another, Format and Start.
-use Rattle.std.proofs.Common.{◌≡◌, ℕ, zero, suc, ◌+◌, ◌<◌, ◌≤◌, Bool, true, false, ◌⊎◌, List, [], ◌∷◌, ◌++◌, map, length, get_or, drop, Some, None, Ok, Err, sym, refl, ap, ◌∙◌, subst, inl, inr, arith}
+use Rattle.std.proofs.Common.{◌≡◌, ℕ, zero, suc, ◌+◌, ◌<◌, false, ◌⊎◌, List, [], ◌∷◌, map, get_or, drop, Ok, sym, refl, ap, ◌∙◌, subst, inl, inr, arith}
 use Rattle.numbers.specs.Names.{Key}
 use Rattle.layout.specs.Words.{blank as zeros}
 use Rattle.tree.specs.Tree.{Entry, page}
-use Rattle.disk.specs.Meaning.{Contents, Meaning, In}
-use Rattle.disk.specs.Rules.{Settled, Puts, Settles, Restarts}
+use Rattle.disk.specs.Meaning.{Contents, Meaning}
+use Rattle.disk.specs.Rules.{Settled, Puts, Settles}
 use Rattle.catalog.specs.Catalogs.{Extent, Catalog, bytes_of}
-use Rattle.catalog.specs.Lays.{PageAt, Lays, root_sector}
-use Rattle.promise.specs.Table.{Rider, Call, New, Old, Delete, Set, Read, Write, Register, Close, Names}
+use Rattle.catalog.specs.Lays.{PageAt, root_sector}
+use Rattle.promise.specs.Table.{Call, New, Old, Delete, Set, Read, Write, Register, Close, Names}
 use Rattle.promise.specs.Ledger.{Written, no_file, Ledger, blank, counts, breaks, wiping, mended, Resolves, never, first, emptied, renumbered, refilled, restarted}
 use Rattle.promise.specs.Promise.{FileAgrees, FilesAgree, Agrees, name_of}
-use Rattle.recovery.specs.Picks.{Picks, NonEmpty, with_sector, Steady, Recovers, Recoverable}
+use Rattle.recovery.specs.Picks.{Picks, with_sector, Steady, Recovers, Recoverable}
 use Rattle.recovery.specs.Steps.{Plus, Over}
-use Rattle.recovery.specs.Wider.{Wider, turns}
-use Rattle.recovery.specs.Turning.{PutTurns, StoppedRecoverable, Turning, TurningRecoverable, TurningSteady, empty_root, empty_catalog, WipingRecoverable, FormatOwes, FormatRecoverable, FormatSteady, RestartRecovers, StartedSteady}
+use Rattle.recovery.specs.Wider.{Wider}
+use Rattle.recovery.specs.Turning.{PutTurns, StoppedRecoverable, Turning, TurningRecoverable, TurningSteady, empty_root, empty_catalog, WipingRecoverable, FormatRecoverable, FormatSteady, RestartRecovers, StartedSteady}
 use Rattle.recovery.proofs.Steps.{sector-here, sector-apart, one-or, one-put, resized}
 use Rattle.recovery.proofs.Agreement.{wider-agrees, wider-steady, steady-recoverable, settled-steady, agrees-below}
 use Rattle.recovery.proofs.Wider.{breaks-wider, same, not-both}
@@ -75,11 +75,11 @@ pub turning-steady : TurningSteady
 turning-steady l call c d m m' m'' k b t p q = put-settled m m' m'' k b (counts l 0 call) d p q t.new
 
 -- FORMAT
-empty-page : PageAt 0 empty_root (page tt [])
+pub empty-page : PageAt 0 empty_root (page tt [])
 unfolding zeros
 empty-page = (refl, refl, refl, refl, tt)
 
-empty-agrees : (size : ℕ) (s : ℕ → Contents) → root_sector < size → s root_sector ≡ empty_root → Agrees blank size s empty_catalog
+pub empty-agrees : (size : ℕ) (s : ℕ → Contents) → root_sector < size → s root_sector ≡ empty_root → Agrees blank size s empty_catalog
 empty-agrees size s h e = record {
   lays = record {
     root = refl;

@@ -1,8 +1,8 @@
 -- Calls that take nothing from the ledger.
-use Rattle.std.proofs.Common.{◌≡◌, ℕ, zero, suc, ◌+◌, ◌<◌, ◌≤◌, Bool, true, false, ◌⊎◌, List, [], ◌∷◌, ◌++◌, map, length, get_or, set, sym, refl, ap, ◌∙◌, subst, inl, inr, arith}
+use Rattle.std.proofs.Common.{◌≡◌, ℕ, zero, suc, Bool, true, false, List, [], ◌∷◌, ◌++◌, length, get_or, set, sym, refl, ap, subst, inr, arith}
 use Rattle.std.proofs.lemmas.List.{get_or-set_other}
 use Rattle.disk.specs.Meaning.{In}
-use Rattle.promise.specs.Table.{Rider, Call, New, Old, Delete, Set, Read, Write, Register, Close, Names, written}
+use Rattle.promise.specs.Table.{Rider, New, Old, Delete, Set, Read, Write, Register, Close, Names, written}
 use Rattle.promise.specs.Ledger.{Written, no_file, Ledger, file_by, slot_of, file_of, from, carried, closing, counts, breaks}
 use Rattle.recovery.specs.Wider.{Grows, Wider, BreaksWider, CountsWider, CloseWider}
 use Rattle.recovery.proofs.Agreement.{grows}

@@ -5,3 +5,4 @@ pub mod Harmless
 pub mod Turning
 pub mod Owed
 pub mod Kept
+pub mod Cards

@@ -9,6 +9,7 @@ ghost use Rattle.recovery.specs.Turning.{PutTurns, StoppedRecoverable, TurningRe
 ghost use Rattle.recovery.specs.Turning.{WipingRecoverable, FormatRecoverable, FormatSteady, RestartRecovers, StartedSteady};
 ghost use Rattle.recovery.specs.Owed.{DeleteTurns, RegisterTurns, CloseTurns, SaneGives};
 ghost use Rattle.recovery.specs.Kept.{RunKept, RunSize, RunPromise};
+ghost use Rattle.recovery.specs.Cards.{Cards};
 
 /// Every call of a disk is a step on the picks, and what steps leave.
 pub fn steps_stand()
@@ -78,4 +79,9 @@ pub fn run_stands()
     ensures kept { RunKept }
     ensures size { RunSize }
     ensures promise { RunPromise }
+{}
+
+/// What each call owes is met on a small disk, a run begins on one, and a Start follows.
+pub fn cards_stand()
+    ensures { Cards }
 {}
