@@ -1,6 +1,6 @@
 -- How often a number stands in a list, and sums over a run of numbers.
-use Rattle.std.proofs.Common.{◌≡◌, ℕ, zero, suc, ◌+◌, ◌-◌, ◌*◌, ◌<◌, ◌≤◌, Bool, true, false, cond, ◌||◌, eqb, ltb, ◌⊎◌, List, [], ◌∷◌, ◌++◌, map, length, get_or, sym, refl, ap, ◌∙◌, subst, inl, inr, suc-mul, zero-mul, mul-suc, arith}
-use Rattle.std.proofs.lemmas.Bool.{eqb-true, eq-eqb, lt-ltb, le-ltb, or_parts, cases_lt}
+use Rattle.std.proofs.Common.{◌≡◌, ℕ, zero, suc, ◌+◌, ◌-◌, ◌*◌, ◌<◌, ◌≤◌, Bool, true, false, cond, ◌||◌, eqb, ltb, ◌⊎◌, ◌↔◌, List, [], ◌∷◌, ◌++◌, map, length, get_or, sym, refl, ap, ◌∙◌, subst, inl, inr, suc-mul, zero-mul, mul-suc, arith}
+use Rattle.std.proofs.lemmas.Bool.{eqb-true, eqb-false, eq-eqb, ne_eqb, lt-ltb, le-ltb, or_parts, cases_lt}
 use Rattle.disk.specs.Meaning.{In}
 use Rattle.catalog.specs.Catalogs.{Distinct, range, member}
 
@@ -206,3 +206,48 @@ sum-until h t m l =
     let a = sum_same h (λ i. cond (ltb i t) (h i) 0) 0 t (λ i k u. rw (lt-ltb i t (omega arith))) in
     let b = sum-zero (λ i. cond (ltb i t) (h i) 0) (0 + t) (m - t) (λ i k u. rw (le-ltb i t (omega arith))) in
     omega arith
+
+-- LENGTHS. A list within a run of numbers is as long as its counts add up to
+sum-tick : (x low m : ℕ) → low ≤ x → x < low + m → sum_c (λ n. tick n x) low m ≡ 1
+sum-tick x low zero l u = absurd (omega arith)
+sum-tick x low (suc m) l u = go (eqb low x) refl (λ v. sum-tick x (suc low) m v (omega arith))
+  where
+    go : (b : Bool) → eqb low x ≡ b → (suc low ≤ x → sum_c (λ n. tick n x) (suc low) m ≡ 1) → sum_c (λ n. tick n x) low (suc m) ≡ 1
+    go true e r =
+        let q = eqb-true low x e in
+        let a = sum_more (λ n. tick n x) low m in
+        let t : tick low x ≡ 1 = ap (λ (b : Bool). cond b 1 0) e in
+        let z = sum-zero (λ n. tick n x) (suc low) m (λ i l u. ap (λ (b : Bool). cond b 1 0) (ne_eqb i x (omega arith))) in
+        omega arith
+    go false e r =
+        let q = eqb-false low x e in
+        let a = sum_more (λ n. tick n x) low m in
+        let t : tick low x ≡ 0 = ap (λ (b : Bool). cond b 1 0) e in
+        let v = r (omega arith) in
+        omega arith
+
+pub occ-length : (l : List ℕ) (low m : ℕ) → ((n : ℕ) → In n l → (low ≤ n) × (n < low + m)) → sum_c (λ n. occ n l) low m ≡ length l
+occ-length [] low m h = sum-zero (λ n. 0) low m (λ i l u. refl)
+occ-length (x ∷ l) low m h =
+    let a = sum-plus (λ n. tick n x) (λ n. occ n l) low m in
+    let b = h x (inl refl) in
+    let t = sum-tick x low m b.0 b.1 in
+    let r = occ-length l low m (λ n i. h n (inr i)) in
+    omega arith
+
+-- a list with the counts of another one that has no number twice
+pub record SameCounts (l m : List ℕ) : Type 0 where
+  pub same : (n : ℕ) → In n l ↔ In n m
+  pub once : Distinct l
+  pub count : length l ≡ length m
+
+pub same-counts : (l m : List ℕ) (most : ℕ) → ((n : ℕ) → occ n l ≡ occ n m) → ((n : ℕ) → occ n m ≤ 1) → ((n : ℕ) → In n m → n < most) → SameCounts l m
+same-counts l m most e d w =
+    let to : (n : ℕ) → In n l → In n m = λ n i. occ-in n m (subst (λ (z : ℕ). 1 ≤ z) (e n) (in-occ n l i)) in
+    record {
+      same = λ n. (to n, λ i. occ-in n l (subst (λ (z : ℕ). 1 ≤ z) (sym (e n)) (in-occ n m i)));
+      once = occ-distinct l (λ n. subst (λ (z : ℕ). z ≤ 1) (sym (e n)) (d n));
+      count =
+          sym (occ-length l 0 most (λ n i. let v = w n (to n i) in (omega arith, omega arith)))
+          ∙ (sum_same (λ n. occ n l) (λ n. occ n m) 0 most (λ n a b. e n) ∙ occ-length m 0 most (λ n i. let v = w n i in (omega arith, omega arith)));
+    }

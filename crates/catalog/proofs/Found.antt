@@ -213,7 +213,7 @@ module _ (size : ℕ) (shown : ℕ → Contents) where
     pub can : Can size (uses_in size shown n root_sector) (names_in size shown n root_sector) start
     pub after : After shown (uses_in size shown n root_sector) (names_in size shown n root_sector) (names_in size shown n root_sector) start st
 
-  size-two : good_size size ≡ true → 2 ≤ size
+  pub size-two : good_size size ≡ true → 2 ≤ size
   size-two e = let a = leb-true 3 size (and_parts (leb 3 size) (leb size 16384) e).0 in omega arith
 
   pub passed : (st : Sofar) → asked size shown ≡ Ok st → Passed (leaf_level size shown - 1) st

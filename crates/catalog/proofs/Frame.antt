@@ -31,6 +31,16 @@ module _ (E : ℕ → Type 0) where
       (p : Page Key S) → ((s : ℕ) → In s (sectors_page f p) → E s) → Children P p → Children Q p
   children f P Q g (page c xs) e h = (g c (λ s i. e s (in_left s (f c) _ i)) h.0, items f P Q g xs (λ s i. e s (in_right s (f c) _ i)) h.1)
 
+-- a number before the data
+pub word_same : (c d : Contents) → take header_size c ≡ take header_size d → (i : ℕ) → i < 349 → word c i ≡ word d i
+word_same c d e i h =
+    let at : (k : ℕ) → k < header_size → get_or c k 0 ≡ get_or d k 0 = λ k l. sym (get_or-take header_size c k 0 l) ∙ (ap (λ (z : Contents). get_or z k 0) e ∙ get_or-take header_size d k 0 l) in
+    let p = at i (omega arith) in
+    let q = at (i + 1) (omega arith) in
+    let r = at (i + 2) (omega arith) in
+    let s = at (i + 3) (omega arith) in
+    cc
+
 module _ (shown shown' : ℕ → Contents) where
   pub laid-same : (n : ℕ) (t : Laid n) → ((s : ℕ) → In s (sectors_laid n t) → shown' s ≡ shown s) → LaidAt shown n t → LaidAt shown' n t
   laid-same zero t e h = tt
@@ -39,23 +49,13 @@ module _ (shown shown' : ℕ → Contents) where
     children (λ s. shown' s ≡ shown s) (sectors_laid n) (LaidAt shown n) (LaidAt shown' n) (λ d k. laid-same n d k) t.1 (λ s i. e s (inr i)) h.1,
   )
 
-  -- a number before the data
-  word-same : (c d : Contents) → take header_size c ≡ take header_size d → (i : ℕ) → i < 349 → word c i ≡ word d i
-  word-same c d e i h =
-      let at : (k : ℕ) → k < header_size → get_or c k 0 ≡ get_or d k 0 = λ k l. sym (get_or-take header_size c k 0 l) ∙ (ap (λ (z : Contents). get_or z k 0) e ∙ get_or-take header_size d k 0 l) in
-      let p = at i (omega arith) in
-      let q = at (i + 1) (omega arith) in
-      let r = at (i + 2) (omega arith) in
-      let s = at (i + 3) (omega arith) in
-      cc
-
   pub file-same : (s : ℕ) (x : Extent) → take header_size (shown' (get_or x.parts 0 0)) ≡ take header_size (shown (get_or x.parts 0 0)) →
       ((k j : ℕ) → j < table_sectors → near_sectors + table_sectors * k + j < length x.parts → word (shown' (get_or x.tabs k 0)) (word_size * j) ≡ word (shown (get_or x.tabs k 0)) (word_size * j)) →
       FileAt shown s x → FileAt shown' s x
   file-same s x e t h =
       let r = h.reaches in
       let f = subst (λ (z : ℕ). take header_size (shown' z) ≡ take header_size (shown z)) r.first e in
-      let w : (i : ℕ) → i < 349 → word (shown' s) i ≡ word (shown s) i = λ i l. word-same (shown' s) (shown s) f i l in
+      let w : (i : ℕ) → i < 349 → word (shown' s) i ≡ word (shown s) i = λ i l. word_same (shown' s) (shown s) f i l in
       record {
         fits = h.fits;
         mark = w 0 (omega arith) ∙ h.mark;

@@ -276,6 +276,10 @@ module _ (size : ℕ) (shown : ℕ → Contents) where
       go st st' false true f g h = absurd (g h)
       go st st' false false f g h = f h
 
+  -- the sectors that an inner page's questions meet after its first child's
+  abbrev others : (n : ℕ) → ℕ → List ℕ
+  others n s = uses_in n (word (shown s) first_at / address_step) ++ uses_items (uses (suc n)) (map (item_in (suc n) (shown s)) (range 0 (word (shown s) count_at)))
+
   module _ (deep : ℕ) (shallow : deep ≤ most_levels) where
     leaf-kids : (kid : ℕ → Step) → Kids zero true kid
     leaf-kids kid holder w = means-iff (λ e. (e, (tt, tt, tt))) (λ h. h.0) (means-none size shown holder w kid)
@@ -298,4 +302,4 @@ module _ (size : ℕ) (shown : ℕ → Contents) where
         let kids : Kids (suc n) false kid = λ holder w. means-link size shown holder w kid (λ x. PageP fewest n x) (λ x. uses_in n x) (λ x. names_in n x) (λ x. names_in n x) r in
         finish deep false fuel level s _ _ _ (body-page (suc n) false kid kids s deep level (cond (eqb level 1) (lowest (suc n)) fewest) refl lt)
         (λ st st' h. let p = and_parts (leb level most_levels) (eqb level deep) (body-level deep true kid level s st st' h) in let v = eqb-true level deep p.1 in omega arith)
-        (λ st p c. ne_eqb (word (shown s) first_at) 0 (λ z. let q = (free-head size shown (word (shown s) first_at / address_step) _ st.met c.free).0 in omega arith))
+        (λ st p c. ne_eqb (word (shown s) first_at) 0 (λ z. let q = (free-head size shown (word (shown s) first_at / address_step) (others n s) st.met c.free).0 in omega arith))

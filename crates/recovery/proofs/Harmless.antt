@@ -16,7 +16,7 @@ use Rattle.promise.specs.Table.{Write}
 use Rattle.promise.specs.Ledger.{Written, no_file, Ledger, file_by, possible_at, slot_of, file_of, from, carried, breaks}
 use Rattle.promise.specs.Promise.{Among, FileAgrees, FilesAgree, Agrees}
 use Rattle.recovery.specs.Wider.{Grows}
-use Rattle.recovery.specs.Harmless.{sector_of, Harmless, OutsideHarmless, BytesHarmless, TableHarmless, WritingHarmless, WroteWider}
+use Rattle.recovery.specs.Harmless.{sector_of, Harmless, OutsideHarmless, DataHarmless, TableHarmless, WritingHarmless, WroteWider}
 use Rattle.recovery.proofs.Lists.{get_or-in, distinct_apart, distinct-left, distinct-right, distinct-at, parts_in, tabs_in, one-extent, own-distinct, one-pair, file_in}
 use Rattle.recovery.proofs.Agreement.{grows, head_in, part-below, byte_in, tab-below, tab_in, part-all, tab-all}
 use Rattle.recovery.proofs.Wider.{carried-long}
@@ -48,9 +48,9 @@ module _ (l : Ledger) (size : ℕ) (s : ℕ → Contents) (c : Catalog) (a : Agr
       let e = one-extent c.files x y k d i j (inl u) (inr v) in
       distinct_apart y.parts y.tabs k (own-distinct c.files y d j) (subst (λ (z : Extent). In k z.parts) e u) v
 
-  bytes-at : (e : Entry Key) (x : Extent) (i : ℕ) (b : Contents) → Named e x l.names c.files → 1 ≤ i → i < length x.parts →
+  data-at : (e : Entry Key) (x : Extent) (i : ℕ) (b : Contents) → Named e x l.names c.files → 1 ≤ i → i < length x.parts →
       ((p : ℕ) → p < x.long → (place p).0 ≡ i → In (get_or b (place p).1 0) (possible_at (file_by l e) p)) → Harmless l c (get_or x.parts i 0) b
-  bytes-at e x i b q u v g = record {
+  data-at e x i b q u v g = record {
     page = no-page k (parts_in x c.files k xi ki);
     head = λ y j f. nohead y j f;
     table = λ y j t w m n f. absurd (no_both x y k xi j ki (subst (λ (z : ℕ). In z y.tabs) f (tab_in size s c h y j t w m n)));
@@ -114,8 +114,8 @@ module _ (l : Ledger) (size : ℕ) (s : ℕ → Contents) (c : Catalog) (a : Agr
           let n' : near_sectors + table_sectors * i + j < length x.parts = subst (λ (z : Extent). near_sectors + table_sectors * i + j < length z.parts) (sym o) (subst (λ (z : ℕ). near_sectors + table_sectors * z + j < length y.parts) e n) in
           g j m n' ∙ (ap (λ (z : Extent). address (get_or z.parts (near_sectors + table_sectors * i + j) 0)) o ∙ ap (λ (z : ℕ). address (get_or y.parts (near_sectors + table_sectors * z + j) 0)) (sym e))
 
-pub bytes-harmless : BytesHarmless
-bytes-harmless l size s c e x i b a = bytes-at l size s c a e x i b
+pub data-harmless : DataHarmless
+data-harmless l size s c e x i b a = data-at l size s c a e x i b
 
 pub table-harmless : TableHarmless
 table-harmless l size s c x i b a = table-at l size s c a x i b
@@ -153,7 +153,7 @@ named-agrees s l a here = a.0
 named-agrees s l a (later p) = named-agrees s l a.1 p
 
 pub writing-harmless : WritingHarmless
-writing-harmless l r w size s c e x i b g = bytes-harmless l' size s c e x i b g.agrees g.named g.past g.inside byte
+writing-harmless l r w size s c e x i b g = data-harmless l' size s c e x i b g.agrees g.named g.past g.inside byte
   where
     l' : Ledger
     l' = breaks l (Write r w)

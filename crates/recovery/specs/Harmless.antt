@@ -41,8 +41,8 @@ OutsideHarmless = (l : Ledger) (size : ℕ) (s : ℕ → Contents) (c : Catalog)
     (In k (page_sectors c ++ file_sectors c) → ⊥) → Harmless l c k b
 
 -- possible bytes in a sector past the first of a file with a name,
-abbrev pub BytesHarmless : Type 0
-BytesHarmless = (l : Ledger) (size : ℕ) (s : ℕ → Contents) (c : Catalog) (e : Entry Key) (x : Extent) (i : ℕ) (b : Contents) → Agrees l size s c →
+abbrev pub DataHarmless : Type 0
+DataHarmless = (l : Ledger) (size : ℕ) (s : ℕ → Contents) (c : Catalog) (e : Entry Key) (x : Extent) (i : ℕ) (b : Contents) → Agrees l size s c →
     Named e x l.names c.files → 1 ≤ i → i < length x.parts →
     ((p : ℕ) → p < x.long → (place p).0 ≡ i → In (slice_index b (place p).1) (possible_at (file_by l e) p)) → Harmless l c (slice_index x.parts i) b
 

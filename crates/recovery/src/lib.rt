@@ -4,7 +4,7 @@
 ghost use Rattle.recovery.specs.Picks.{SteadyRecoverable, AgreesFrame, SettledSteady};
 ghost use Rattle.recovery.specs.Steps.{AreSteps, OnePut, LessSteady, LessRecoverable};
 ghost use Rattle.recovery.specs.Wider.{WiderSteady, BreaksWider, CountsWider, CloseWider};
-ghost use Rattle.recovery.specs.Harmless.{PutSteady, OutsideHarmless, BytesHarmless, TableHarmless, WritingHarmless, WroteWider, LocalSteady};
+ghost use Rattle.recovery.specs.Harmless.{PutSteady, OutsideHarmless, DataHarmless, TableHarmless, WritingHarmless, WroteWider, LocalSteady};
 ghost use Rattle.recovery.specs.Turning.{PutTurns, StoppedRecoverable, TurningRecoverable, TurningSteady};
 ghost use Rattle.recovery.specs.Turning.{WipingRecoverable, FormatRecoverable, FormatSteady, RestartRecovers, StartedSteady};
 ghost use Rattle.recovery.specs.Owed.{DeleteTurns, RegisterTurns, CloseTurns, SaneGives};
@@ -40,7 +40,7 @@ pub fn wider_stands()
 pub fn harmless_stands()
     ensures steady { PutSteady }
     ensures outside { OutsideHarmless }
-    ensures bytes { BytesHarmless }
+    ensures bytes { DataHarmless }
     ensures table { TableHarmless }
     ensures write { WritingHarmless }
 {}
