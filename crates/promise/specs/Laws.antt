@@ -4,6 +4,7 @@ use Rattle.numbers.specs.Names.{Key}
 use Rattle.tree.specs.Tree.{Entry}
 use Rattle.disk.specs.Meaning.{Contents}
 use Rattle.catalog.specs.Catalogs.{Catalog, bytes_of}
+use Rattle.catalog.specs.Laws.{Sized}
 use Rattle.promise.specs.declared.fault.FileFault.{FileFault}
 use Rattle.promise.specs.Faults.{is_three}
 use Rattle.promise.specs.Table.{Table, Call, Answer, No, first, before, behind, plain, waits, Turn, Format, Start, formatted, started, no_slots, Proper}
@@ -11,10 +12,6 @@ use Rattle.promise.specs.Ledger.{Ledger, blank, numbered, file_by, follow, wipin
 use Rattle.promise.specs.Promise.{name_of, Agrees}
 use Rattle.promise.specs.Calls.{says_three}
 use Rattle.promise.specs.Together.{Together, taken, freed}
-
--- each sector of a disk has 1,024 bytes
-abbrev pub Sized : ℕ → (ℕ → Contents) → Type 0
-Sized size shown = (s : ℕ) → s < size → length (shown s) ≡ 1024
 
 -- THE TABLE. Every call keeps it proper, whatever it answers
 pub record StaysProper : Type 0 where

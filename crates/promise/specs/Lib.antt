@@ -5,3 +5,4 @@ pub mod Promise
 pub mod Calls
 pub mod Together
 pub mod Laws
+pub mod Examples

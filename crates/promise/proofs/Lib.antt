@@ -1,0 +1,16 @@
+pub mod Outcomes
+pub mod Restarted
+pub mod Granted
+pub mod Directory
+pub mod Accounts
+pub mod Slots
+pub mod Entries
+pub mod StayProper
+pub mod Ledgers
+pub mod Beside
+pub mod StaySane
+pub mod Links
+pub mod StayTogether
+pub mod Firsts
+pub mod StartTogether
+pub mod StartProper

@@ -1,0 +1,33 @@
+//! What holds of the table, of the ledger, and of the two together, each stated by the contract of a function.
+
+ghost use Rattle.promise.specs.Laws.{StaysProper, Accounts, Refusals, StaysSane, RestartForgets, StayTogether};
+
+/// Every call keeps the table proper, whatever it answers.
+pub fn proper_stands()
+    ensures { StaysProper }
+{}
+
+/// An accepted call takes no more sectors than are free, and the account of free sectors is exact.
+pub fn accounts_stand()
+    ensures { Accounts }
+{}
+
+/// A refusal but 3 changes nothing; after a 3 the store waits.
+pub fn refusals_stand()
+    ensures { Refusals }
+{}
+
+/// The ledger of a run stays sane: through calls, broken-off ones and starts.
+pub fn sane_stands()
+    ensures { StaysSane }
+{}
+
+/// An accepted start forgets slots and files without a name, and nothing else.
+pub fn restart_stands()
+    ensures { RestartForgets }
+{}
+
+/// Table and ledger go together, through every call, after a format and after an accepted start.
+pub fn together_stand()
+    ensures { StayTogether }
+{}
