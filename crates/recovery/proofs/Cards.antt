@@ -1,18 +1,19 @@
 -- What the calls owe is met on small disks.
-use Rattle.std.proofs.Common.{◌≡◌, ℕ, zero, suc, ◌+◌, ◌-◌, ◌*◌, ◌<◌, ◌≤◌, min, Bool, true, false, cond, eqb, ◌⊎◌, List, [], ◌∷◌, ◌++◌, length, get_or, take, replicate, sym, refl, ap, ◌∙◌, subst, inl, inr, arith}
+use Rattle.std.proofs.Common.{◌≡◌, ℕ, zero, suc, ◌+◌, ◌^◌, ◌-◌, ◌*◌, ◌<◌, ◌≤◌, min, Bool, true, false, cond, eqb, ◌⊎◌, List, [], ◌∷◌, ◌++◌, length, get_or, take, replicate, sym, refl, ap, ◌∙◌, subst, inl, inr, arith}
 use Rattle.std.proofs.lemmas.Bool.{eqb-true, cases_lt}
 use Rattle.numbers.specs.Order.{cmp}
-use Rattle.numbers.specs.Lengths.{place, header_size}
+use Rattle.numbers.specs.Lengths.{place, header_size, last_sector, tables}
 use Rattle.numbers.specs.Sectors.{address}
 use Rattle.layout.specs.Words.{blank as zeros, word_size, word, written}
-use Rattle.layout.specs.Headers.{tables_at, near_at}
+use Rattle.layout.specs.Headers.{header_bytes}
 use Rattle.tree.specs.Tree.{Good}
 use Rattle.disk.specs.Meaning.{Contents, In}
 use Rattle.disk.specs.Rules.{Settled}
 use Rattle.catalog.specs.Catalogs.{Extent, Catalog, plain_tree, range, byte_at, bytes_of, Distinct}
 use Rattle.catalog.specs.Lays.{PageAt, FileAt, Lays, root_sector}
-use Rattle.catalog.specs.Laws.{here}
-use Rattle.catalog.proofs.Frame.{file-same}
+use Rattle.catalog.specs.Laws.{here, FileFits}
+use Rattle.catalog.specs.Written.{header_of}
+use Rattle.catalog.proofs.Written.{head-written}
 use Rattle.promise.specs.Table.{Anonymous, Registered, Rider, Write, no_slots}
 use Rattle.promise.specs.Ledger.{Ledger, from, breaks}
 use Rattle.promise.specs.Promise.{Among, Agrees}
@@ -26,84 +27,50 @@ use Rattle.recovery.proofs.Calls.{closed-agrees, long_of}
 use Rattle.recovery.proofs.Agreement.{settled-steady, steady-recoverable, wider-agrees}
 use Rattle.recovery.proofs.Turning.{empty-page, empty-agrees}
 
--- COMPUTED. Two functions are the same below n
-same_below : ℕ → (ℕ → ℕ) → (ℕ → ℕ) → Bool
-same_below zero f g = true
-same_below (suc n) f g = cond (eqb (f n) (g n)) (same_below n f g) false
-
-last_or : (a b : ℕ) → a < suc b → (a < b) ⊎ (a ≡ b)
-last_or a b w = elim (cases_lt a b) [ inl i ↦ inl i | inr i ↦ inr (omega arith) ]
-
-both-true : (v w : Bool) → cond v w false ≡ true → (v ≡ true) × (w ≡ true)
-both-true true w e = (refl, e)
-both-true false w e = not-both false refl e
-
-below-same : (n : ℕ) (f g : ℕ → ℕ) → same_below n f g ≡ true → (k : ℕ) → k < n → f k ≡ g k
-unfolding same_below
-below-same zero f g e k u = absurd (omega arith)
-below-same (suc n) f g e k u =
-    let q = both-true (eqb (f n) (g n)) (same_below n f g) e in
-    elim (last_or k n u) [ inl i ↦ below-same n f g q.1 k i | inr i ↦ ap f i ∙ (eqb-true (f n) (g n) q.0 ∙ ap g (sym i)) ]
-
 -- PAGES AND FIRST SECTORS
 page_a-laid : PageAt 0 root_a page_a
 unfolding zeros
 page_a-laid = (refl, refl, refl, refl, (refl, refl, refl, tt))
 
-empty-laid : FileAt (λ (k : ℕ). head_a (short 0) []) 2 (short 0)
-unfolding zeros same_below
-empty-laid = record {
+one : (P : ℕ → Type 0) (k : ℕ) → P k → (t : ℕ) → In t (k ∷ []) → P t
+one P k p t i = elim i [ inl e ↦ subst P (sym e) p | inr z ↦ absurd z ]
+
+-- the header of a file without tables, as it is written, is read again
+headed : (s : ℕ → Contents) (x : Extent) → FileFits name_a x → get_or x.parts 0 0 ≡ 2 → length x.parts ≤ 64 → take header_size (s 2) ≡ header_bytes (header_of name_a x) → FileAt s 2 x
+headed s x f e n h = head-written s 2 name_a x f (record { first = e; head = h; far = λ k j u v. absurd (omega arith) })
+
+short-fits : (n : ℕ) → n ≤ 672 → FileFits name_a (short n)
+short-fits n u = record {
+  short = omega arith;
   fits = omega arith;
-  mark = refl;
-  last = refl;
-  used = refl;
-  reaches = record {
-    first = refl;
-    parts = refl;
-    tabs = refl;
-    extensions = below-same 12 (λ k. word (head_a (short 0) []) (tables_at + word_size * k)) (λ k. address (get_or [] k 0)) refl;
-    near = below-same 64 (λ k. word (head_a (short 0) []) (near_at + word_size * k)) (λ k. address (get_or (2 ∷ []) k 0)) refl;
-    far = λ k j u v. absurd (omega arith);
-  };
+  parts = omega arith;
+  tabs = let e : last_sector n ≡ 0 = omega arith in sym (ap tables e);
+  small = λ s i. elim i [ inl j ↦ one (λ z. address z < 2 ^ 32) 2 (omega arith) s j | inr j ↦ absurd j ];
 }
 
-seven-laid : FileAt (λ (k : ℕ). head_a (short 1) (7 ∷ [])) 2 (short 1)
-unfolding zeros same_below
-seven-laid = record {
+longer-fits : FileFits name_a longer
+longer-fits = record {
+  short = omega arith;
   fits = omega arith;
-  mark = refl;
-  last = refl;
-  used = refl;
-  reaches = record {
-    first = refl;
-    parts = refl;
-    tabs = refl;
-    extensions = below-same 12 (λ k. word (head_a (short 1) (7 ∷ [])) (tables_at + word_size * k)) (λ k. address (get_or [] k 0)) refl;
-    near = below-same 64 (λ k. word (head_a (short 1) (7 ∷ [])) (near_at + word_size * k)) (λ k. address (get_or (2 ∷ []) k 0)) refl;
-    far = λ k j u v. absurd (omega arith);
-  };
+  parts = refl;
+  tabs = refl;
+  small = λ s i. elim i [ inl j ↦ elim j [ inl e ↦ omega arith | inr k ↦ one (λ z. address z < 2 ^ 32) 3 (omega arith) s k ] | inr j ↦ absurd j ];
 }
 
-pub longer-laid : FileAt (λ (k : ℕ). head_a longer []) 2 longer
-unfolding zeros same_below
-longer-laid = record {
-  fits = omega arith;
-  mark = refl;
-  last = refl;
-  used = refl;
-  reaches = record {
-    first = refl;
-    parts = refl;
-    tabs = refl;
-    extensions = below-same 12 (λ k. word (head_a longer []) (tables_at + word_size * k)) (λ k. address (get_or [] k 0)) refl;
-    near = below-same 64 (λ k. word (head_a longer []) (near_at + word_size * k)) (λ k. address (get_or (2 ∷ 3 ∷ []) k 0)) refl;
-    far = λ k j u v. absurd (omega arith);
-  };
-}
+head-empty : take header_size (head_a (short 0) []) ≡ header_bytes (header_of name_a (short 0))
+unfolding zeros
+head-empty = refl
 
--- on a disk that shows this in sector 2
-pub shown-laid : (s : ℕ → Contents) (c : Contents) (x : Extent) → get_or x.parts 0 0 ≡ 2 → length x.parts ≤ 64 → s 2 ≡ c → FileAt (λ (k : ℕ). c) 2 x → FileAt s 2 x
-shown-laid s c x f n e h = file-same (λ k. c) s 2 x (ap (λ (z : ℕ). take header_size (s z)) f ∙ ap (λ (z : Contents). take header_size z) e) (λ k j u v. absurd (omega arith)) h
+head-seven : take header_size (head_a (short 1) (7 ∷ [])) ≡ header_bytes (header_of name_a (short 1))
+unfolding zeros
+head-seven = refl
+
+head-longer : take header_size (head_a longer []) ≡ header_bytes (header_of name_a longer)
+unfolding zeros
+head-longer = refl
+
+seven-laid : (s : ℕ → Contents) → s 2 ≡ head_a (short 1) (7 ∷ []) → FileAt s 2 (short 1)
+seven-laid s e = headed s (short 1) (short-fits 1 (omega arith)) refl (omega arith) (ap (λ (z : Contents). take header_size z) e ∙ head-seven)
 
 seven-bytes : (s : ℕ → Contents) → s 2 ≡ head_a (short 1) (7 ∷ []) → bytes_of s (short 1) ≡ 7 ∷ []
 unfolding bytes_of range zeros
@@ -114,9 +81,6 @@ unfolding bytes_of range
 no-bytes s = refl
 
 -- CATALOGS
-one : (P : ℕ → Type 0) (k : ℕ) → P k → (t : ℕ) → In t (k ∷ []) → P t
-one P k p t i = elim i [ inl e ↦ subst P (sym e) p | inr z ↦ absurd z ]
-
 good_a : (x : Extent) → Good cmp (plain_tree (catalog_a x))
 good_a x = record { rises = (tt, tt); few = omega arith; filled = (omega arith, omega arith, tt, (tt, tt)) }
 
@@ -146,7 +110,7 @@ before l c s a = record { shows = λ k i. inl refl; settled = settled s; steady 
 
 seven-agrees : Agrees (knowing named_a seven_closed no_slots) 11 (holding root_a (head_a (short 1) (7 ∷ []))) (catalog_a (short 1))
 seven-agrees = record {
-  lays = lays_a s (short 1) refl (shown-laid s (head_a (short 1) (7 ∷ [])) (short 1) refl (omega arith) refl seven-laid) one-two within-two;
+  lays = lays_a s (short 1) refl (seven-laid s refl) one-two within-two;
   names = refl;
   files = ((refl, subst (λ (z : List ℕ). Among z ((7 ∷ []) ∷ [])) (sym (seven-bytes s refl)) (inl refl, tt)), tt);
 }
@@ -183,7 +147,7 @@ register_card = record {
   names = refl;
   files = refl;
   name = refl;
-  laid = shown-laid s' (head_a (short 1) (7 ∷ [])) (short 1) refl (omega arith) refl seven-laid;
+  laid = seven-laid s' refl;
   bytes = seven-bytes s' refl;
   owned = record {
     distinct = (λ i. i, tt);
@@ -203,13 +167,13 @@ register_card = record {
 pub close_card : CloseOwes (knowing named_a seven_open (slot_a Registered)) 0 0 (eleven (holding root_a (head_a (short 0) []))) (catalog_a (short 0)) (short 1) 2 (head_a (short 1) (7 ∷ []))
 close_card = record {
   before = before _ _ _ (record {
-    lays = lays_a s (short 0) refl (shown-laid s (head_a (short 0) []) (short 0) refl (omega arith) refl empty-laid) one-two within-two;
+    lays = lays_a s (short 0) refl (headed s (short 0) (short-fits 0 (omega arith)) refl (omega arith) head-empty) one-two within-two;
     names = refl;
     files = ((refl, subst (λ (z : List ℕ). Among z []) (sym (no-bytes s)) tt), tt);
   });
   here = omega arith;
   first = refl;
-  laid = shown-laid s' (head_a (short 1) (7 ∷ [])) (short 1) refl (omega arith) refl seven-laid;
+  laid = seven-laid s' refl;
   bytes = seven-bytes s' refl;
   owned = record {
     distinct = (λ i. i, tt);
@@ -286,7 +250,7 @@ write-old f p e q o =
 pub write_card : Writing (knowing named_a longer_closed (slot_a Registered)) (record { slot = 0; place = 672; end = false }) (7 ∷ []) 11 longer_shown (catalog_a longer) (name_a, 0) longer 1 (written zeros 0 (7 ∷ []))
 write_card = record {
   agrees = wider-agrees l (breaks l (Write r (7 ∷ []))) 11 longer_shown (catalog_a longer) (breaks-wider l (Write r (7 ∷ []))) (record {
-    lays = lays_a longer_shown longer refl (shown-laid longer_shown (head_a longer []) longer refl (omega arith) refl longer-laid) one-three within-three;
+    lays = lays_a longer_shown longer refl (headed longer_shown longer longer-fits refl (omega arith) head-longer) one-three within-three;
     names = refl;
     files = (closed-agrees longer_shown (record { bytes = bytes_of longer_shown longer; closed = 0; possible = [] }) longer refl, tt);
   });

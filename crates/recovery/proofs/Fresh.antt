@@ -18,6 +18,9 @@ use Rattle.promise.specs.Promise.{Agrees, name_of}
 use Rattle.promise.specs.Promise.{formatted as run_formatted}
 use Rattle.promise.specs.Calls.{Holds, Starts}
 use Rattle.promise.specs.Together.{Live, Together}
+use Rattle.promise.proofs.Slots.{no-slot}
+use Rattle.promise.proofs.Ledgers.{blank-sane}
+use Rattle.promise.proofs.StayTogether.{formats}
 use Rattle.recovery.specs.Picks.{with_sector}
 use Rattle.recovery.specs.Turning.{empty_root, empty_catalog}
 use Rattle.recovery.specs.Owed.{Before}
@@ -65,11 +68,6 @@ fits_at (x ∷ xs) e i = go (ltb x 256) refl e i (fits_at xs)
     go false q h j d = not-both false refl h
 
 -- THE TABLE
-no_slot : (n s : ℕ) (x : Slot) → get_or (replicate n None) s None ≡ Some x → ⊥
-no_slot zero s x e = let z : ◌≡◌ {A = ℕ} 0 1 = cc in omega arith
-no_slot (suc n) zero x e = let z : ◌≡◌ {A = ℕ} 0 1 = cc in omega arith
-no_slot (suc n) (suc s) x e = no_slot n s x e
-
 range-within : (low n s : ℕ) → In s (range low n) → (low ≤ s) × (s < low + n)
 unfolding range
 range-within low zero s i = absurd i
@@ -79,14 +77,14 @@ range-within low (suc n) s (inr i) = let r = range-within (suc low) n s i in (om
 proper : Proper (formatted 11)
 proper = record {
   eight = refl;
-  handles = λ s x e. absurd (no_slot 8 s x e);
-  one = λ s h x y e. absurd (no_slot 8 s x e);
+  handles = λ s x e. absurd (no-slot s x e);
+  one = λ s h x y e. absurd (no-slot s x e);
   lengths = λ n. (omega arith, omega arith);
   good = record { rises = tt; few = omega arith; filled = (omega arith, omega arith, tt, tt) };
   names = λ e i. absurd i;
-  held = λ s x e. absurd (no_slot 8 s x e);
+  held = λ s x e. absurd (no-slot s x e);
   single = λ e d i. absurd i;
-  apart = λ s x e. absurd (no_slot 8 s x e);
+  apart = λ s x e. absurd (no-slot s x e);
   room = omega arith;
 }
 
@@ -108,43 +106,16 @@ holds = record {
   proper = proper;
 }
 
--- THE LEDGER
-sane : Sane blank
-sane = record {
-  rises = tt;
-  one = tt;
-  known = λ e i. absurd i;
-  held = λ s x e. absurd (no_slot 8 s x e);
-  apart = λ s x e. absurd (no_slot 8 s x e);
-  once = λ s h x y e. absurd (no_slot 8 s x e);
-  covers = λ n. record { closed = refl; within = omega arith; own = λ p u. absurd (omega arith) };
-  pending = λ c e. let z : ◌≡◌ {A = ℕ} 0 1 = cc in absurd (omega arith);
-}
-
-none-live : (n : ℕ) → Live blank n → ⊥
-none-live n (inl e) = e.1
-none-live n (inr s) = no_slot 8 s.0 s.1 s.2
-
-together : Together (formatted 11) blank
-together = record {
-  sector = λ n. 0;
-  apart = λ n m i. absurd (none-live n i);
-  names = refl;
-  slots = refl;
-  bytes = λ n i. absurd (none-live n i);
-  closed = λ n i. absurd (none-live n i);
-  unbroken = λ e. (refl, refl);
-}
-
+-- THE STORE
 steady : Before blank empty_catalog (eleven (holding empty_root zeros))
 steady = before blank empty_catalog (holding empty_root zeros) agrees
 
 kept : Kept blank fresh
 unfolding holds
 kept = record {
-  sane = sane;
+  sane = blank-sane;
   recovers = steady-recoverable blank empty_catalog fresh.disk steady.steady;
-  ready = λ e. record { table = formatted 11; holds = holds; together = together; shows = steady.shows; steady = steady.steady };
+  ready = λ e. record { table = formatted 11; holds = holds; together = formats 11; steady = steady.steady };
 }
 
 -- A RUN

@@ -15,9 +15,10 @@ use Rattle.catalog.proofs.Frame.{in_left}
 use Rattle.promise.specs.Table.{Write}
 use Rattle.promise.specs.Ledger.{Written, no_file, Ledger, file_by, possible_at, slot_of, file_of, from, carried, breaks}
 use Rattle.promise.specs.Promise.{Among, FileAgrees, FilesAgree, Agrees}
+use Rattle.promise.proofs.Firsts.{distinct-same}
 use Rattle.recovery.specs.Wider.{Grows}
 use Rattle.recovery.specs.Harmless.{sector_of, Harmless, OutsideHarmless, DataHarmless, TableHarmless, WritingHarmless, WroteWider}
-use Rattle.recovery.proofs.Lists.{get_or-in, distinct_apart, distinct-left, distinct-right, distinct-at, parts_in, tabs_in, one-extent, own-distinct, one-pair, file_in}
+use Rattle.recovery.proofs.Lists.{get_or-in, distinct_apart, distinct-left, distinct-right, parts_in, tabs_in, one-extent, own-distinct, one-pair, file_in}
 use Rattle.recovery.proofs.Agreement.{grows, head_in, part-below, byte_in, tab-below, tab_in, part-all, tab-all}
 use Rattle.recovery.proofs.Wider.{carried-long}
 
@@ -73,7 +74,7 @@ module _ (l : Ledger) (size : ℕ) (s : ℕ → Contents) (c : Catalog) (a : Agr
       nohead y j f =
           let o = one-extent c.files y x (get_or x.parts i 0) d j xi (inl (subst (λ (z : ℕ). In z y.parts) f (head_in size s c h y j))) (inl ki) in
           let f' : get_or x.parts 0 0 ≡ get_or x.parts i 0 = subst (λ (z : Extent). get_or z.parts 0 0 ≡ get_or x.parts i 0) o f in
-          let z : 0 ≡ i = distinct-at x.parts 0 i parts (omega arith) v f' in
+          let z : 0 ≡ i = distinct-same x.parts 0 i 0 parts (omega arith) v f' in
           omega arith
 
       at : (n : Entry Key) (y : Extent) → Named n y l.names c.files → (p : ℕ) → p < y.long → sector_of y p ≡ get_or x.parts i 0 → In (get_or b (place p).1 0) (possible_at (file_by l n) p)
@@ -83,7 +84,7 @@ module _ (l : Ledger) (size : ℕ) (s : ℕ → Contents) (c : Catalog) (a : Agr
           let m' : p < x.long = subst (λ (z : Extent). p < z.long) o.1 m in
           let f' : sector_of x p ≡ get_or x.parts i 0 = subst (λ (z : Extent). sector_of z p ≡ get_or x.parts i 0) o.1 f in
           let w : (place p).0 < length x.parts = part-below size s c h x xi p m' in
-          subst (λ (z : Entry Key). In (get_or b (place p).1 0) (possible_at (file_by l z) p)) (sym o.0) (g p m' (distinct-at x.parts (place p).0 i parts w v f'))
+          subst (λ (z : Entry Key). In (get_or b (place p).1 0) (possible_at (file_by l z) p)) (sym o.0) (g p m' (distinct-same x.parts (place p).0 i 0 parts w v f'))
 
   table-at : (x : Extent) (i : ℕ) (b : Contents) → In x c.files → i < length x.tabs →
       ((j : ℕ) → j < table_sectors → near_sectors + table_sectors * i + j < length x.parts → word b (word_size * j) ≡ address (get_or x.parts (near_sectors + table_sectors * i + j) 0)) → Harmless l c (get_or x.tabs i 0) b
@@ -110,7 +111,7 @@ module _ (l : Ledger) (size : ℕ) (s : ℕ → Contents) (c : Catalog) (a : Agr
           let w : t < length y.tabs = tab-below size s c h y yi t j m n in
           let v' : i < length y.tabs = subst (λ (z : Extent). i < length z.tabs) o v in
           let f' : get_or y.tabs t 0 ≡ get_or y.tabs i 0 = f ∙ ap (λ (z : Extent). get_or z.tabs i 0) o in
-          let e : t ≡ i = distinct-at y.tabs t i (subst (λ (z : Extent). Distinct z.tabs) o tabs) w v' f' in
+          let e : t ≡ i = distinct-same y.tabs t i 0 (subst (λ (z : Extent). Distinct z.tabs) o tabs) w v' f' in
           let n' : near_sectors + table_sectors * i + j < length x.parts = subst (λ (z : Extent). near_sectors + table_sectors * i + j < length z.parts) (sym o) (subst (λ (z : ℕ). near_sectors + table_sectors * z + j < length y.parts) e n) in
           g j m n' ∙ (ap (λ (z : Extent). address (get_or z.parts (near_sectors + table_sectors * i + j) 0)) o ∙ ap (λ (z : ℕ). address (get_or y.parts (near_sectors + table_sectors * z + j) 0)) (sym e))
 

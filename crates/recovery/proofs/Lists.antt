@@ -31,13 +31,6 @@ pub distinct-right : (a b : List ℕ) → Distinct (a ++ b) → Distinct b
 distinct-right [] b d = d
 distinct-right (x ∷ a) b d = distinct-right a b d.1
 
-pub distinct-at : (a : List ℕ) (i j : ℕ) → Distinct a → i < length a → j < length a → get_or a i 0 ≡ get_or a j 0 → i ≡ j
-distinct-at [] i j d u v e = absurd (omega arith)
-distinct-at (x ∷ a) zero zero d u v e = refl
-distinct-at (x ∷ a) zero (suc j) d u v e = absurd (d.0 (subst (λ (z : ℕ). In z a) (sym e) (get_or-in a j 0 (omega arith))))
-distinct-at (x ∷ a) (suc i) zero d u v e = absurd (d.0 (subst (λ (z : ℕ). In z a) e (get_or-in a i 0 (omega arith))))
-distinct-at (x ∷ a) (suc i) (suc j) d u v e = ap suc (distinct-at a i j d.1 (omega arith) (omega arith) e)
-
 pub join : (a b : List ℕ) → Distinct a → Distinct b → ((t : ℕ) → In t a → In t b → ⊥) → Distinct (a ++ b)
 join [] b d e h = e
 join (x ∷ a) b d e h = (λ i. elim (in_split x a b i) [ inl j ↦ d.0 j | inr j ↦ h x (inl refl) j ], join a b d.1 e (λ t i j. h t (inr i) j))

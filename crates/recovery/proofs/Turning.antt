@@ -10,6 +10,7 @@ use Rattle.catalog.specs.Lays.{PageAt, root_sector}
 use Rattle.promise.specs.Table.{Call, New, Old, Delete, Set, Read, Write, Register, Close, Names}
 use Rattle.promise.specs.Ledger.{Written, no_file, Ledger, blank, counts, breaks, wiping, mended, Resolves, never, first, emptied, renumbered, refilled, restarted}
 use Rattle.promise.specs.Promise.{FileAgrees, FilesAgree, Agrees, name_of}
+use Rattle.promise.proofs.Restarted.{renumbered-names}
 use Rattle.recovery.specs.Picks.{Picks, with_sector, Steady, Recovers, Recoverable}
 use Rattle.recovery.specs.Steps.{Plus, Over}
 use Rattle.recovery.specs.Wider.{Wider}
@@ -136,10 +137,6 @@ format-steady m m' m'' p q = put-settled m m' m'' root_sector empty_root blank e
 pub restart-recovers : RestartRecovers
 restart-recovers l m m' h r = resized l m.size m'.size m'.shown r.size (h m'.shown r.answer.picks)
 
-renames : (i : ℕ) (ns : List (Entry Key)) → map name_of (renumbered i ns) ≡ map name_of ns
-renames i [] = refl
-renames i (n ∷ ns) = ap (λ (z : List (List ℕ)). n.0 ∷ z) (renames (suc i) ns)
-
 refiles : (s : ℕ → Contents) (l r : Ledger) (i : ℕ) (ns : List (Entry Key)) (xs : List Extent) (found : List (List ℕ)) →
     ((j q : ℕ) → q ≡ i + j → get_or r.files q no_file ≡ get_or (refilled l ns found) j no_file) → FilesAgree s l ns xs → FilesAgree s r (renumbered i ns) xs
 refiles s l r i [] [] found h a = tt
@@ -153,7 +150,7 @@ refiles s l r i (n ∷ ns) (x ∷ xs) found h a = (
 started-agrees : (l : Ledger) (size : ℕ) (s : ℕ → Contents) (c : Catalog) (found : List (List ℕ)) → Agrees l size s c → Agrees (restarted l found) size s c
 started-agrees l size s c found a = record {
   lays = a.lays;
-  names = a.names ∙ sym (renames 0 l.names);
+  names = a.names ∙ sym (renumbered-names 0 l.names);
   files = refiles s l (restarted l found) 0 l.names c.files found
       (λ j q e. let z : q ≡ j = omega arith in ap (λ (y : ℕ). get_or (refilled l l.names found) y no_file) z) a.files;
 }

@@ -13,7 +13,6 @@ pub record Ready (l : Ledger) (v : View) : Type 0 where
   pub table : Table
   pub holds : Holds v table
   pub together : Together table l
-  pub shows : Picks v.disk v.disk.shown
   pub steady : Steady l holds.catalog v.disk
 
 -- any store of a run
