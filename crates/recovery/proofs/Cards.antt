@@ -1,10 +1,9 @@
 -- What the calls owe is met on small disks.
-use Rattle.std.proofs.Common.{◌≡◌, ℕ, zero, suc, ◌+◌, ◌^◌, ◌-◌, ◌*◌, ◌<◌, ◌≤◌, min, Bool, true, false, cond, eqb, ◌⊎◌, List, [], ◌∷◌, ◌++◌, length, get_or, take, replicate, sym, refl, ap, ◌∙◌, subst, inl, inr, arith}
-use Rattle.std.proofs.lemmas.Bool.{eqb-true, cases_lt}
+use Rattle.std.proofs.Common.{◌≡◌, ℕ, zero, suc, ◌+◌, ◌^◌, ◌-◌, ◌<◌, ◌≤◌, min, false, ◌⊎◌, List, [], ◌∷◌, ◌++◌, length, get_or, take, replicate, sym, refl, ap, ◌∙◌, subst, inl, inr, arith}
 use Rattle.numbers.specs.Order.{cmp}
 use Rattle.numbers.specs.Lengths.{place, header_size, last_sector, tables}
 use Rattle.numbers.specs.Sectors.{address}
-use Rattle.layout.specs.Words.{blank as zeros, word_size, word, written}
+use Rattle.layout.specs.Words.{blank as zeros, written}
 use Rattle.layout.specs.Headers.{header_bytes}
 use Rattle.tree.specs.Tree.{Good}
 use Rattle.disk.specs.Meaning.{Contents, In}
@@ -22,7 +21,7 @@ use Rattle.recovery.specs.Turning.{empty_root, empty_catalog, FormatOwes}
 use Rattle.recovery.specs.Harmless.{sector_of, Writing}
 use Rattle.recovery.specs.Owed.{Before, DeleteOwes, RegisterOwes, CloseOwes}
 use Rattle.recovery.specs.Cards.{eleven, holding, name_a, page_a, root_a, catalog_a, short, longer, head_a, knowing, named_a, slot_a, seven_closed, seven_open, longer_shown, longer_closed}
-use Rattle.recovery.proofs.Wider.{not-both, breaks-wider}
+use Rattle.recovery.proofs.Wider.{breaks-wider}
 use Rattle.recovery.proofs.Calls.{closed-agrees, long_of}
 use Rattle.recovery.proofs.Agreement.{settled-steady, steady-recoverable, wider-agrees}
 use Rattle.recovery.proofs.Turning.{empty-page, empty-agrees}

@@ -1,5 +1,5 @@
 -- A store on a disk that was just formatted: a run begins with it, and a Start follows.
-use Rattle.std.proofs.Common.{◌≡◌, ℕ, zero, suc, ◌+◌, ◌<◌, ◌≤◌, Bool, true, false, cond, ltb, List, [], ◌∷◌, ◌++◌, map, get_or, replicate, Some, None, Ok, sym, refl, ap, subst, inl, inr, arith}
+use Rattle.std.proofs.Common.{◌≡◌, ℕ, zero, suc, ◌+◌, ◌<◌, ◌≤◌, Bool, true, false, cond, ltb, List, [], ◌∷◌, ◌++◌, map, get_or, None, Ok, sym, refl, ap, subst, inl, inr, arith}
 use Rattle.std.proofs.lemmas.Bool.{ltb-true}
 use Rattle.numbers.specs.Names.{Key}
 use Rattle.layout.specs.Words.{blank as zeros}
@@ -11,13 +11,12 @@ use Rattle.catalog.specs.Laws.{Sized}
 use Rattle.catalog.specs.Questions.{found}
 use Rattle.catalog.proofs.Counts.{member-false, in-occ, length-range}
 use Rattle.catalog.proofs.Found.{found-laid-both, unique}
-use Rattle.promise.specs.Table.{Slot, Done, No, no_slots, formatted, started, Proper, done}
+use Rattle.promise.specs.Table.{Done, No, no_slots, formatted, started, Proper, done}
 use Rattle.promise.specs.Table.{done as start_done}
-use Rattle.promise.specs.Ledger.{Ledger, blank, renumbered, refilled, restarted, Sane}
+use Rattle.promise.specs.Ledger.{Ledger, blank, renumbered, refilled, restarted}
 use Rattle.promise.specs.Promise.{Agrees, name_of}
 use Rattle.promise.specs.Promise.{formatted as run_formatted}
 use Rattle.promise.specs.Calls.{Holds, Starts}
-use Rattle.promise.specs.Together.{Live, Together}
 use Rattle.promise.proofs.Slots.{no-slot}
 use Rattle.promise.proofs.Ledgers.{blank-sane}
 use Rattle.promise.proofs.StayTogether.{formats}

@@ -10,3 +10,4 @@ pub mod Divided
 pub mod Kept
 pub mod Cards
 pub mod Fresh
+pub mod Keeping

@@ -1,5 +1,5 @@
 -- Lists of numbers that stand once, and where the sectors of files are.
-use Rattle.std.proofs.Common.{◌≡◌, ℕ, zero, suc, ◌<◌, ◌⊎◌, List, [], ◌∷◌, ◌++◌, length, get_or, sym, refl, ap, ◌∙◌, subst, inl, inr, arith}
+use Rattle.std.proofs.Common.{◌≡◌, ℕ, zero, suc, ◌<◌, ◌⊎◌, List, [], ◌∷◌, ◌++◌, length, get_or, sym, refl, ◌∙◌, subst, inl, inr, arith}
 use Rattle.numbers.specs.Names.{Key}
 use Rattle.tree.specs.Tree.{Entry}
 use Rattle.disk.specs.Meaning.{In}

@@ -9,7 +9,7 @@ use Rattle.catalog.specs.Catalogs.{Extent, Catalog, bytes_of}
 use Rattle.catalog.specs.Lays.{PageAt, root_sector}
 use Rattle.promise.specs.Table.{Call, New, Old, Delete, Set, Read, Write, Register, Close, Names}
 use Rattle.promise.specs.Ledger.{Written, no_file, Ledger, blank, counts, breaks, wiping, mended, Resolves, never, first, emptied, renumbered, refilled, restarted}
-use Rattle.promise.specs.Promise.{FileAgrees, FilesAgree, Agrees, name_of}
+use Rattle.promise.specs.Promise.{FileAgrees, FilesAgree, Agrees}
 use Rattle.promise.proofs.Restarted.{renumbered-names}
 use Rattle.recovery.specs.Picks.{Picks, with_sector, Steady, Recovers, Recoverable}
 use Rattle.recovery.specs.Steps.{Plus, Over}

@@ -1,10 +1,11 @@
 -- Calls that take nothing from the ledger.
-use Rattle.std.proofs.Common.{◌≡◌, ℕ, zero, suc, Bool, true, false, List, [], ◌∷◌, ◌++◌, length, get_or, set, sym, refl, ap, subst, inr, arith}
+use Rattle.std.proofs.Common.{◌≡◌, ℕ, zero, suc, Bool, true, false, cond, List, [], ◌∷◌, ◌++◌, length, get_or, set, sym, refl, ap, subst, inr, arith}
 use Rattle.std.proofs.lemmas.List.{get_or-set_other}
 use Rattle.disk.specs.Meaning.{In}
-use Rattle.promise.specs.Table.{Rider, New, Old, Delete, Set, Read, Write, Register, Close, Names, written}
-use Rattle.promise.specs.Ledger.{Written, no_file, Ledger, file_by, slot_of, file_of, from, carried, closing, counts, breaks}
-use Rattle.recovery.specs.Wider.{Grows, Wider, BreaksWider, CountsWider, CloseWider}
+use Rattle.promise.specs.Faults.{is_three}
+use Rattle.promise.specs.Table.{Call, Rider, New, Old, Delete, Set, Read, Write, Register, Close, Names, written}
+use Rattle.promise.specs.Ledger.{Written, no_file, Ledger, file_by, slot_of, file_of, from, carried, closing, counts, breaks, Fate, counted, turned_away, broken_off, fate, followed}
+use Rattle.recovery.specs.Wider.{Grows, Wider, BreaksWider, CountsWider, CloseWider, FollowWider, RefusedWider}
 use Rattle.recovery.proofs.Agreement.{grows}
 
 pub carried-long : (p : ℕ) (w : List ℕ) (ps : List (List ℕ)) → length (carried p w ps) ≡ length ps
@@ -79,3 +80,19 @@ close-wider l s h n = record {
   names = refl;
   files = λ e i. subst (λ (z : Written). Grows (file_by l e) z) (sym (get_or-set_other l.files (slot_of l h).file e.1 (closing (file_of l h)) no_file (n e i))) (grows (file_by l e));
 }
+
+-- whatever the answer is to the ledger
+followed-wider : (l : Ledger) (c : Call) (f : Fate) → ((s : ℕ) → Wider l (counts l s c)) → Wider l (followed l c f)
+followed-wider l c (counted s) g = g s
+followed-wider l c turned_away g = same l l refl refl
+followed-wider l c broken_off g = breaks-wider l c
+
+pub follow-wider : FollowWider
+follow-wider l c a e = followed-wider l c (fate a) (λ s. counts-wider l s c e)
+
+pub refused-wider : RefusedWider
+refused-wider l c r = go (is_three r)
+  where
+    go : (v : Bool) → Wider l (followed l c (cond v broken_off turned_away))
+    go true = breaks-wider l c
+    go false = same l l refl refl

@@ -6,7 +6,7 @@ use Rattle.promise.specs.Ledger.{Ledger, Sane}
 use Rattle.promise.specs.Promise.{View, Run, Whole}
 use Rattle.promise.specs.Calls.{Holds, Formatted, Did, Starts}
 use Rattle.promise.specs.Together.{Together}
-use Rattle.recovery.specs.Picks.{Picks, Steady, Recoverable}
+use Rattle.recovery.specs.Picks.{Steady, Recoverable}
 
 -- a ready store: it holds a table that goes with the ledger, and whatever a power stop leaves lays the catalog that it holds
 pub record Ready (l : Ledger) (v : View) : Type 0 where

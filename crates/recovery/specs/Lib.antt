@@ -6,3 +6,4 @@ pub mod Turning
 pub mod Owed
 pub mod Kept
 pub mod Cards
+pub mod Keeping

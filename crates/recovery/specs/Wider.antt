@@ -4,8 +4,9 @@ use Rattle.numbers.specs.Names.{Key}
 use Rattle.tree.specs.Tree.{Entry}
 use Rattle.disk.specs.Meaning.{Meaning, In}
 use Rattle.catalog.specs.Catalogs.{Catalog}
-use Rattle.promise.specs.Table.{Call, New, Old, Delete, Set, Read, Write, Register, Close, Names}
-use Rattle.promise.specs.Ledger.{Written, Ledger, file_by, possible_at, slot_of, counts, breaks}
+use Rattle.promise.specs.declared.fault.FileFault.{FileFault}
+use Rattle.promise.specs.Table.{Call, New, Old, Delete, Set, Read, Write, Register, Close, Names, Answer, No}
+use Rattle.promise.specs.Ledger.{Written, Ledger, file_by, possible_at, slot_of, counts, breaks, follow}
 use Rattle.recovery.specs.Picks.{Steady}
 
 -- the closed length is the same, and no possible byte is lost
@@ -46,3 +47,10 @@ CountsWider = (l : Ledger) (s : ℕ) (c : Call) → turns c ≡ false → Wider 
 -- nor an accepted Close of a file without a name
 abbrev pub CloseWider : Type 0
 CloseWider = (l : Ledger) (s h : ℕ) → ((e : Entry Key) → In e l.names → e.1 ≢ (slot_of l h).file) → Wider l (counts l s (Close h))
+
+-- so a call without such a Put takes nothing, whatever it answers, and a refused one never
+abbrev pub FollowWider : Type 0
+FollowWider = (l : Ledger) (c : Call) (a : Answer) → turns c ≡ false → Wider l (follow l c a)
+
+abbrev pub RefusedWider : Type 0
+RefusedWider = (l : Ledger) (c : Call) (r : FileFault) → Wider l (follow l c (No r))

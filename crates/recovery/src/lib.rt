@@ -3,12 +3,13 @@
 
 ghost use Rattle.recovery.specs.Picks.{SteadyRecoverable, AgreesFrame, SettledSteady};
 ghost use Rattle.recovery.specs.Steps.{AreSteps, OnePut, LessSteady, LessRecoverable};
-ghost use Rattle.recovery.specs.Wider.{WiderSteady, BreaksWider, CountsWider, CloseWider};
+ghost use Rattle.recovery.specs.Wider.{WiderSteady, BreaksWider, CountsWider, CloseWider, FollowWider, RefusedWider};
 ghost use Rattle.recovery.specs.Harmless.{PutSteady, OutsideHarmless, DataHarmless, TableHarmless, WritingHarmless, WroteWider, LocalSteady};
 ghost use Rattle.recovery.specs.Turning.{PutTurns, StoppedRecoverable, TurningRecoverable, TurningSteady};
 ghost use Rattle.recovery.specs.Turning.{WipingRecoverable, FormatRecoverable, FormatSteady, RestartRecovers, StartedSteady};
 ghost use Rattle.recovery.specs.Owed.{DeleteTurns, RegisterTurns, CloseTurns, SaneGives};
 ghost use Rattle.recovery.specs.Kept.{RunKept, RunSize, RunPromise};
+ghost use Rattle.recovery.specs.Keeping.{Keeps};
 ghost use Rattle.recovery.specs.Cards.{Cards};
 
 /// Every call of a disk is a step on the picks, and what steps leave.
@@ -34,6 +35,8 @@ pub fn wider_stands()
     ensures counts { CountsWider }
     ensures close { CloseWider }
     ensures wrote { WroteWider }
+    ensures follow { FollowWider }
+    ensures refused { RefusedWider }
 {}
 
 /// Which puts are harmless, and that they leave a steady disk so.
@@ -79,6 +82,11 @@ pub fn run_stands()
     ensures kept { RunKept }
     ensures size { RunSize }
     ensures promise { RunPromise }
+{}
+
+/// What is left for each call so that it keeps what a store keeps.
+pub fn keeping_stands()
+    ensures { Keeps }
 {}
 
 /// What each call owes is met on a small disk, a run begins on one, and a Start follows.
