@@ -258,8 +258,8 @@ write_card = record {
   known = omega arith;
   past = omega arith;
   inside = omega arith;
-  new = λ p q u v. write-new (from l r) p is u v;
-  old = λ p q o. write-old (from l r) p is q o;
+  new = λ p n q u v. write-new (from l r) p is u v;
+  old = λ p n q o. write-old (from l r) p is q o;
 }
   where
     l : Ledger

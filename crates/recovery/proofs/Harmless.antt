@@ -178,14 +178,14 @@ writing-harmless l r w size s c e x i b g = data-harmless l' size s c e x i b g.
         had = byte-possible s (file_by (breaks l (Write r w)) e) x a p u
 
         stays : (p < from l r) ⊎ (from l r + length w ≤ p) → In (get_or b (place p).1 0) (possible_at (file_by (breaks l (Write r w)) e) p)
-        stays o = subst (λ (z : ℕ). In z (possible_at (file_by (breaks l (Write r w)) e) p)) (sym (g.old p v o)) had.0
+        stays o = subst (λ (z : ℕ). In z (possible_at (file_by (breaks l (Write r w)) e) p)) (sym (g.old p u v o)) had.0
 
         by : (p < from l r) ⊎ (from l r ≤ p) → (p < from l r + length w) ⊎ (from l r + length w ≤ p) → In (get_or b (place p).1 0) (possible_at (file_by (breaks l (Write r w)) e) p)
         by (inl o) y = stays (inl o)
         by (inr o) (inr y) = stays (inr y)
         by (inr o) (inl y) =
             let n : p < length (carried (from l r) w (file_of l r.slot).possible) = subst (λ (z : Written). p < length z.possible) is had.1 in
-            subst (λ (z : ℕ). In z (possible_at (file_by (breaks l (Write r w)) e) p)) (sym (g.new p v o y))
+            subst (λ (z : ℕ). In z (possible_at (file_by (breaks l (Write r w)) e) p)) (sym (g.new p u v o y))
             (subst (λ (z : Written). In (get_or w (p - from l r) 0) (possible_at z p)) (sym is)
             (carried-has (from l r) w (file_of l r.slot).possible p o y (subst (λ (z : ℕ). p < z) (carried-long (from l r) w (file_of l r.slot).possible) n)))
 

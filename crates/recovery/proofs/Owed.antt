@@ -311,7 +311,7 @@ but-other (suc i) (n ∷ ns) e d u (inr j) q = but-other i ns e d.1 (omega arith
 
 pub sane-gives : SaneGives
 sane-gives = record {
-  close_known = λ l h x s e. subst (λ (z : Slot). z.file < length l.files) (sym (ap the_slot e)) (s.held h x e);
+  known = λ l h x s e. subst (λ (z : Slot). z.file < length l.files) (sym (ap the_slot e)) (s.held h x e);
   close_alone = λ l h i s u n e j q. but-other i l.names e s.one u j (q ∙ sym n);
   register_alone = λ l h x s e a d j q. s.apart h x e a d j (q ∙ ap (λ (z : Slot). z.file) (ap the_slot e));
 }

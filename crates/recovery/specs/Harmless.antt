@@ -53,8 +53,8 @@ TableHarmless = (l : Ledger) (size : ℕ) (s : ℕ → Contents) (c : Catalog) (
     ((j : ℕ) → j < table_sectors → near_sectors + table_sectors * i + j < length x.parts → word b (word_size * j) ≡ address (slice_index x.parts (near_sectors + table_sectors * i + j))) →
     Harmless l c (slice_index x.tabs i) b
 
--- WRITE. b for file sector i of the file x with the entry e: from the rider's place on the bytes of w, and elsewhere what is shown.
--- Through the whole call the ledger is that of an answer 3, which has the bytes of w among the possible ones
+-- WRITE. b for file sector i of the file x with the entry e: below the closed length it has the bytes of w from the rider's place on, and
+-- elsewhere what is shown. Through the whole call the ledger is that of an answer 3, which has the bytes of w among the possible ones
 pub record Writing (l : Ledger) (r : Rider) (w : List ℕ) (size : ℕ) (s : ℕ → Contents) (c : Catalog) (e : Entry Key) (x : Extent) (i : ℕ) (b : Contents) : Type 0 where
   pub agrees : Agrees (breaks l (Write r w)) size s c
   pub named : Named e x l.names c.files
@@ -62,8 +62,8 @@ pub record Writing (l : Ledger) (r : Rider) (w : List ℕ) (size : ℕ) (s : ℕ
   pub known : e.1 < length l.files
   pub past : 1 ≤ i
   pub inside : i < length x.parts
-  pub new : (p : ℕ) → (place p).0 ≡ i → from l r ≤ p → p < from l r + length w → slice_index b (place p).1 ≡ slice_index w (p - from l r)
-  pub old : (p : ℕ) → (place p).0 ≡ i → (p < from l r) ⊎ (from l r + length w ≤ p) → slice_index b (place p).1 ≡ slice_index (s (sector_of x p)) (place p).1
+  pub new : (p : ℕ) → p < x.long → (place p).0 ≡ i → from l r ≤ p → p < from l r + length w → slice_index b (place p).1 ≡ slice_index w (p - from l r)
+  pub old : (p : ℕ) → p < x.long → (place p).0 ≡ i → (p < from l r) ⊎ (from l r + length w ≤ p) → slice_index b (place p).1 ≡ slice_index (s (sector_of x p)) (place p).1
 
 abbrev pub WritingHarmless : Type 0
 WritingHarmless = (l : Ledger) (r : Rider) (w : List ℕ) (size : ℕ) (s : ℕ → Contents) (c : Catalog) (e : Entry Key) (x : Extent) (i : ℕ) (b : Contents) →

@@ -114,7 +114,7 @@ CloseTurns = (l : Ledger) (h i : ℕ) (m : Meaning) (c : Catalog) (x : Extent) (
 
 -- what is owed of the ledger alone holds of every ledger of a run
 pub record SaneGives : Type 0 where
-  pub close_known : (l : Ledger) (h : ℕ) (x : Slot) → Sane l → slice_index_or l.slots h None ≡ Some x → (slot_of l h).file < length l.files
+  pub known : (l : Ledger) (h : ℕ) (x : Slot) → Sane l → slice_index_or l.slots h None ≡ Some x → (slot_of l h).file < length l.files
   pub close_alone : (l : Ledger) (h i : ℕ) → Sane l → i < length l.names → (slice_index_or l.names i no_entry).1 ≡ (slot_of l h).file →
       (e : Entry Key) → In e (but i l.names) → e.1 ≢ (slot_of l h).file
   pub register_alone : (l : Ledger) (h : ℕ) (x : Slot) → Sane l → slice_index_or l.slots h None ≡ Some x → x.sort ≡ Anonymous →
