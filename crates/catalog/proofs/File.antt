@@ -229,11 +229,11 @@ module _ (size : ℕ) (shown : ℕ → Contents) where
 
     -- each of its sectors once: the parts after the first, and the tables
     module _ (n : ℕ) where
-      abbrev G : ℕ → ℕ
-      G i = cond (ltb i (1 + word (shown s) last_at)) (tick n (sector_of_part s i)) 0
+      abbrev part_ticks : ℕ → ℕ
+      part_ticks i = cond (ltb i (1 + word (shown s) last_at)) (tick n (sector_of_part s i)) 0
 
-      abbrev H : ℕ → ℕ
-      H k = cond (ltb k (tables (word (shown s) last_at))) (tick n (tab s k)) 0
+      abbrev tab_ticks : ℕ → ℕ
+      tab_ticks k = cond (ltb k (tables (word (shown s) last_at))) (tick n (tab s k)) 0
 
       one_at : (a i x : ℕ) (b : ℕ) → x ≡ b → occ n (cond (leb i a) (x ∷ []) []) ≡ cond (ltb i (1 + a)) (tick n b) 0
       one_at a i x b e = go (leb i a) refl
@@ -242,22 +242,22 @@ module _ (size : ℕ) (shown : ℕ → Contents) where
           go true q = let v = leb-true i a q in rw (lt-ltb i (1 + a) (omega arith)) (rw e (omega arith))
           go false q = let v = leb-false i a q in rw (le-ltb i (1 + a) (omega arith)) refl
 
-      near-sum : occ n near_uses ≡ sum_c G 1 63
-      near-sum = occ-spread n _ 1 63 ∙ sum_same _ G 1 63 (λ i l u. one_at (word (shown s) last_at) i (word (shown s) (near_at + word_size * i) / address_step) (sector_of_part s i) (sym (part-near s i u)))
+      near-sum : occ n near_uses ≡ sum_c part_ticks 1 63
+      near-sum = occ-spread n _ 1 63 ∙ sum_same _ part_ticks 1 63 (λ i l u. one_at (word (shown s) last_at) i (word (shown s) (near_at + word_size * i) / address_step) (sector_of_part s i) (sym (part-near s i u)))
 
-      table-sum : (k : ℕ) → occ n (table_uses (word (shown s) last_at) k (tab s k)) ≡ sum_c (λ j. G (near_sectors + table_sectors * k + j)) 0 table_sectors
-      table-sum k = occ-spread n _ 0 table_sectors ∙ sum_same _ (λ j. G (near_sectors + table_sectors * k + j)) 0 table_sectors
+      table-sum : (k : ℕ) → occ n (table_uses (word (shown s) last_at) k (tab s k)) ≡ sum_c (λ j. part_ticks (near_sectors + table_sectors * k + j)) 0 table_sectors
+      table-sum k = occ-spread n _ 0 table_sectors ∙ sum_same _ (λ j. part_ticks (near_sectors + table_sectors * k + j)) 0 table_sectors
           (λ j l u. one_at (word (shown s) last_at) (near_sectors + table_sectors * k + j) (word (shown (tab s k)) (word_size * j) / address_step) (sector_of_part s (near_sectors + table_sectors * k + j)) (sym (part-far s k j u)))
 
-      tab-sum : (k : ℕ) → occ n (cond (ltb k (tables (word (shown s) last_at))) (tab s k ∷ table_uses (word (shown s) last_at) k (tab s k)) []) ≡ H k + sum_c (λ j. G (near_sectors + table_sectors * k + j)) 0 table_sectors
+      tab-sum : (k : ℕ) → occ n (cond (ltb k (tables (word (shown s) last_at))) (tab s k ∷ table_uses (word (shown s) last_at) k (tab s k)) []) ≡ tab_ticks k + sum_c (λ j. part_ticks (near_sectors + table_sectors * k + j)) 0 table_sectors
       tab-sum k = go (ltb k (tables (word (shown s) last_at))) refl
         where
           go : (d : Bool) → ltb k (tables (word (shown s) last_at)) ≡ d →
-              occ n (cond d (tab s k ∷ table_uses (word (shown s) last_at) k (tab s k)) []) ≡ cond d (tick n (tab s k)) 0 + sum_c (λ j. G (near_sectors + table_sectors * k + j)) 0 table_sectors
+              occ n (cond d (tab s k ∷ table_uses (word (shown s) last_at) k (tab s k)) []) ≡ cond d (tick n (tab s k)) 0 + sum_c (λ j. part_ticks (near_sectors + table_sectors * k + j)) 0 table_sectors
           go true q = ap (λ (z : ℕ). tick n (tab s k) + z) (table-sum k)
           go false q =
               let v = tables-past (word (shown s) last_at) k (ltb-false k _ q) in
-              let z = sum-zero (λ j. G (near_sectors + table_sectors * k + j)) 0 table_sectors (λ j l u. rw (le-ltb (near_sectors + table_sectors * k + j) (1 + word (shown s) last_at) (omega arith))) in
+              let z = sum-zero (λ j. part_ticks (near_sectors + table_sectors * k + j)) 0 table_sectors (λ j l u. rw (le-ltb (near_sectors + table_sectors * k + j) (1 + word (shown s) last_at) (omega arith))) in
               omega arith
 
       pub file-occ : FileAt shown s (extent size shown s) → tick n s + occ n file_rest ≡ occ n (extent size shown s).parts + occ n (extent size shown s).tabs
@@ -270,17 +270,17 @@ module _ (size : ℕ) (shown : ℕ → Contents) where
           let e₁ = occ-append n near_uses tabs_uses in
           let e₂ = near-sum in
           let e₃ = occ-spread n (λ (k : ℕ). cond (ltb k (tables a)) (tab s k ∷ table_uses a k (tab s k)) []) 0 most_tables in
-          let e₄ = sum_same (λ (k : ℕ). occ n (cond (ltb k (tables a)) (tab s k ∷ table_uses a k (tab s k)) [])) (λ k. H k + sum_c (λ j. G (near_sectors + table_sectors * k + j)) 0 table_sectors) 0 most_tables (λ k l u. tab-sum k) in
-          let e₅ = sum-plus H (λ k. sum_c (λ j. G (near_sectors + table_sectors * k + j)) 0 table_sectors) 0 most_tables in
-          let e₆ = sum-blocks G near_sectors table_sectors 0 most_tables in
+          let e₄ = sum_same (λ (k : ℕ). occ n (cond (ltb k (tables a)) (tab s k ∷ table_uses a k (tab s k)) [])) (λ k. tab_ticks k + sum_c (λ j. part_ticks (near_sectors + table_sectors * k + j)) 0 table_sectors) 0 most_tables (λ k l u. tab-sum k) in
+          let e₅ = sum-plus tab_ticks (λ k. sum_c (λ j. part_ticks (near_sectors + table_sectors * k + j)) 0 table_sectors) 0 most_tables in
+          let e₆ = sum-blocks part_ticks near_sectors table_sectors 0 most_tables in
           let e₇ = occ-map n (tab s) 0 (tables a) ∙ sum-until (λ k. tick n (tab s k)) (tables a) most_tables (tables_most a u) in
           let e₈ = occ-map n (sector_of_part s) 0 (1 + a) ∙ sum-until (λ i. tick n (sector_of_part s i)) (1 + a) 3136 (omega arith) in
-          let e₉ = sum-split G 0 near_sectors 3072 in
-          let f₁ = sum_more G 0 63 in
-          let f₂ : G 0 ≡ tick n s = rw (lt-ltb 0 (1 + a) (omega arith)) (ap (tick n) first) in
+          let e₉ = sum-split part_ticks 0 near_sectors 3072 in
+          let f₁ = sum_more part_ticks 0 63 in
+          let f₂ : part_ticks 0 ≡ tick n s = rw (lt-ltb 0 (1 + a) (omega arith)) (ap (tick n) first) in
           finish e₁ e₂ e₃ e₄ e₅ e₆ e₇ e₈ e₉ f₁ f₂
         where
-          finish : {p q r t x y z z' o₁ o₂ o₃ g₀ k : ℕ} → z ≡ x + y → x ≡ p → y ≡ q → q ≡ r → r ≡ o₁ + o₂ → o₃ ≡ o₂ → t ≡ o₁ → k ≡ z' → z' ≡ g₀ + o₃ → g₀ ≡ G 0 + p → G 0 ≡ tick n s → tick n s + z ≡ k + t
+          finish : {p q r t x y z z' o₁ o₂ o₃ g₀ k : ℕ} → z ≡ x + y → x ≡ p → y ≡ q → q ≡ r → r ≡ o₁ + o₂ → o₃ ≡ o₂ → t ≡ o₁ → k ≡ z' → z' ≡ g₀ + o₃ → g₀ ≡ part_ticks 0 + p → part_ticks 0 ≡ tick n s → tick n s + z ≡ k + t
           finish e₁ e₂ e₃ e₄ e₅ e₆ e₇ e₈ e₉ f₁ f₂ = omega arith
 
   extent-eq : (x : Extent) (l : ℕ) (p t : List ℕ) → x.long ≡ l → x.parts ≡ p → x.tabs ≡ t → x ≡ record { long = l; parts = p; tabs = t }

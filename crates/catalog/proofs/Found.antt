@@ -22,7 +22,7 @@ use Rattle.catalog.proofs.Counts.{tick, occ, occ-append, tick_most, in-occ, occ-
 use Rattle.catalog.proofs.Means.{Can, After, Free}
 use Rattle.catalog.proofs.File.{sector-of, file_rest, file-occ, extent-of}
 use Rattle.catalog.proofs.Rise.{rising_rises, rises_rising, names-over-none, zeros-are}
-use Rattle.catalog.proofs.Pages.{PageAsked, LaidAsked, ok-split, uses_items, uses_page, uses, Sure, PageP, item_in, uses_in, names_in, dead, means-page}
+use Rattle.catalog.proofs.Pages.{PageAsked, LaidAsked, ok-split, uses_items, uses_page, uses, Sure, PageHolds, item_in, uses_in, names_in, dead, means-page}
 
 all_both : {A : Type 0} (P Q : A → Type 0) (l : List A) → All P l → All Q l → All (λ (x : A). P x × Q x) l
 all_both P Q [] h k = tt
@@ -157,7 +157,7 @@ module _ (size : ℕ) (shown : ℕ → Contents) where
             root true e h = let q = eqb-true s root_sector e in omega arith
             root false e h = absurd (omega arith)
 
-  whole-laid : (n : ℕ) → 2 ≤ size → Sized size shown → suc n ≤ most_levels → PageP size shown (lowest n) n root_sector → Can size (uses_in size shown n root_sector) (names_in size shown n root_sector) start → Lays size shown (catalog_at n)
+  whole-laid : (n : ℕ) → 2 ≤ size → Sized size shown → suc n ≤ most_levels → PageHolds size shown (lowest n) n root_sector → Can size (uses_in size shown n root_sector) (names_in size shown n root_sector) start → Lays size shown (catalog_at n)
   whole-laid n two sized l p c =
       let within = λ (s : ℕ) (i : In s (page_sectors (catalog_at n) ++ file_sectors (catalog_at n))). sectors-within n two p.2 c.free s i in
       record {
@@ -170,7 +170,7 @@ module _ (size : ℕ) (shown : ℕ → Contents) where
         within = within;
       }
 
-  laid-whole : (n : ℕ) → Lays size shown (catalog_at n) → PageP size shown (lowest n) n root_sector × Can size (uses_in size shown n root_sector) (names_in size shown n root_sector) start
+  laid-whole : (n : ℕ) → Lays size shown (catalog_at n) → PageHolds size shown (lowest n) n root_sector × Can size (uses_in size shown n root_sector) (names_in size shown n root_sector) start
   laid-whole n h =
       let es = names_in size shown n root_sector in
       let sure = all_both (λ (e : Entry Key). good_name e.0 ≡ true) (λ (e : Entry Key). FileAt shown e.1 (extent_for e)) es h.names (sure_files es h.files) in
@@ -209,7 +209,7 @@ module _ (size : ℕ) (shown : ℕ → Contents) where
     pub fits : good_size size ≡ true
     pub level : leaf_level size shown ≡ suc n
     pub few : suc n ≤ most_levels
-    pub pages : PageP size shown (lowest n) n root_sector
+    pub pages : PageHolds size shown (lowest n) n root_sector
     pub can : Can size (uses_in size shown n root_sector) (names_in size shown n root_sector) start
     pub after : After shown (uses_in size shown n root_sector) (names_in size shown n root_sector) (names_in size shown n root_sector) start st
 
@@ -237,7 +237,7 @@ module _ (size : ℕ) (shown : ℕ → Contents) where
           let m = (means-page size shown deep q n 5 1 (omega arith) (omega arith) (omega arith) root_sector).sound start st h in
           record { fits = g; level = omega arith; few = omega arith; pages = m.0; can = m.1; after = m.2 }
 
-  pub passes : (n : ℕ) → good_size size ≡ true → leaf_level size shown ≡ suc n → suc n ≤ most_levels → PageP size shown (lowest n) n root_sector →
+  pub passes : (n : ℕ) → good_size size ≡ true → leaf_level size shown ≡ suc n → suc n ≤ most_levels → PageHolds size shown (lowest n) n root_sector →
       Can size (uses_in size shown n root_sector) (names_in size shown n root_sector) start → (st : Sofar) × (asked size shown ≡ Ok st)
   unfolding asked
   passes n g e l p c =

@@ -69,16 +69,16 @@ module _ (size : ℕ) (shown : ℕ → Contents) where
   abbrev pub Hangs : (n : ℕ) → Laid n → Type 0
   Hangs n t = LaidAsked shown n t × Full Key n (bare n t) × All Sure (flat Key n (bare n t))
 
-  abbrev pub PageP : ℕ → (n : ℕ) → ℕ → Type 0
-  PageP low n s =
+  abbrev pub PageHolds : ℕ → (n : ℕ) → ℕ → Type 0
+  PageHolds low n s =
       LaidAsked shown (suc n) (laid size shown (suc n) s) × FullPage (Full Key n) low (map_page (bare n) (laid size shown (suc n) s).1)
       × All Sure (flat Key (suc n) (bare (suc n) (laid size shown (suc n) s)))
 
   abbrev pub item_in : (n : ℕ) → Contents → ℕ → Item Key (Laid n)
   item_in n c i = item (name_in (part c (entry_at i) name_size), word c (entry_at i + file_at) / address_step) (laid size shown n (word c (entry_at i + below_at) / address_step))
 
-  abbrev RestP : (n : ℕ) → Contents → ℕ → List (Item Key (Laid n)) → Type 0
-  RestP n c i xs = ItemsAt n c i xs × Below (LaidAsked shown n) xs × All (Child (Full Key n)) (map_rest (bare n) xs) × All Sure (flat_rest (flat Key n) (map_rest (bare n) xs))
+  abbrev RestHolds : (n : ℕ) → Contents → ℕ → List (Item Key (Laid n)) → Type 0
+  RestHolds n c i xs = ItemsAt n c i xs × Below (LaidAsked shown n) xs × All (Child (Full Key n)) (map_rest (bare n) xs) × All Sure (flat_rest (flat Key n) (map_rest (bare n) xs))
 
   abbrev pub item_step : Bool → (ℕ → Step) → ℕ → ℕ → Step
   item_step leaf kid s i =
@@ -101,11 +101,11 @@ module _ (size : ℕ) (shown : ℕ → Contents) where
       link size shown (not leaf) s (word (shown s) first_at) kid ▸
       (λ (st : Sofar). each (λ (i : ℕ). item_step leaf kid s i) (range 0 (word (shown s) count_at)) st)
 
-  abbrev KidP : (n : ℕ) → ℕ → Type 0
-  KidP n w = (w ≡ under n (laid size shown n (w / address_step))) × Hangs n (laid size shown n (w / address_step))
+  abbrev KidHolds : (n : ℕ) → ℕ → Type 0
+  KidHolds n w = (w ≡ under n (laid size shown n (w / address_step))) × Hangs n (laid size shown n (w / address_step))
 
   abbrev Kids : (n : ℕ) → Bool → (ℕ → Step) → Type 0
-  Kids n leaf kid = (holder w : ℕ) → Means size shown (link size shown (not leaf) holder w kid) (KidP n w)
+  Kids n leaf kid = (holder w : ℕ) → Means size shown (link size shown (not leaf) holder w kid) (KidHolds n w)
       (uses n (laid size shown n (w / address_step))) (flat Key n (bare n (laid size shown n (w / address_step)))) (flat Key n (bare n (laid size shown n (w / address_step))))
 
   means-entry : (k : Key) (x : ℕ) → Means size shown (ask_entry size shown k x) (FileAt shown x (extent size shown x)) (file_rest size shown x) [] ((k, x) ∷ [])
@@ -116,16 +116,16 @@ module _ (size : ℕ) (shown : ℕ → Contents) where
       (append-nil (file_rest size shown x)) (means-seq size shown (ask_file size shown x) (list (line shown (k, x))) _ _ (file_rest size shown x) [] [] [] [] ((k, x) ∷ []) a b))
 
   module _ (n : ℕ) (leaf : Bool) (kid : ℕ → Step) (kids : Kids n leaf kid) (s : ℕ) where
-    abbrev StepP : ℕ → Type 0
-    StepP i =
+    abbrev StepHolds : ℕ → Type 0
+    StepHolds i =
         (((good_name (name_in (part (shown s) (entry_at i) name_size)) ≡ true) × (part (shown s) (entry_at i) name_size ≡ name_field (name_in (part (shown s) (entry_at i) name_size)))) ×
         ((word (shown s) (entry_at i + file_at) ≡ address (word (shown s) (entry_at i + file_at) / address_step)) ×
         FileAt shown (word (shown s) (entry_at i + file_at) / address_step) (extent size shown (word (shown s) (entry_at i + file_at) / address_step)))) ×
-        KidP n (word (shown s) (entry_at i + below_at))
+        KidHolds n (word (shown s) (entry_at i + below_at))
 
     means-step : (i : ℕ) → let t = laid size shown n (word (shown s) (entry_at i + below_at) / address_step) in
         let e : Entry Key = (name_in (part (shown s) (entry_at i) name_size), word (shown s) (entry_at i + file_at) / address_step) in
-        Means size shown (item_step leaf kid s i) (StepP i) ((e.1 ∷ file_rest size shown e.1) ++ uses n t) (e ∷ flat Key n (bare n t)) (e ∷ flat Key n (bare n t))
+        Means size shown (item_step leaf kid s i) (StepHolds i) ((e.1 ∷ file_rest size shown e.1) ++ uses n t) (e ∷ flat Key n (bare n t)) (e ∷ flat Key n (bare n t))
     means-step i =
         let v = word (shown s) (entry_at i + file_at) in
         let x = v / address_step in
@@ -136,25 +136,25 @@ module _ (size : ℕ) (shown : ℕ → Contents) where
         means-seq size shown _ _ _ _ (x ∷ file_rest size shown x) _ ((k, x) ∷ []) _ ((k, x) ∷ []) _ (means-seq size shown _ _ _ _ [] (x ∷ file_rest size shown x) ((k, x) ∷ []) [] [] ((k, x) ∷ []) a b) d
 
     means-items : (m i : ℕ) → let xs = map (item_in n (shown s)) (range i m) in
-        Means size shown (each (λ (i : ℕ). item_step leaf kid s i) (range i m)) (RestP n (shown s) i xs) (uses_items (uses n) xs) (flat_rest (flat Key n) (map_rest (bare n) xs)) (flat_rest (flat Key n) (map_rest (bare n) xs))
+        Means size shown (each (λ (i : ℕ). item_step leaf kid s i) (range i m)) (RestHolds n (shown s) i xs) (uses_items (uses n) xs) (flat_rest (flat Key n) (map_rest (bare n) xs)) (flat_rest (flat Key n) (map_rest (bare n) xs))
     unfolding range
     means-items zero i = means-iff (λ u. (tt, tt, tt, tt)) (λ u. tt) (means-done size shown)
     means-items (suc m) i =
         let d = laid size shown n (word (shown s) (entry_at i + below_at) / address_step) in
         let xs = map (item_in n (shown s)) (range (suc i) m) in
         let es = flat_rest (flat Key n) (map_rest (bare n) xs) in
-        means-iff {P = StepP i × RestP n (shown s) (suc i) xs} {Q = RestP n (shown s) i (item_in n (shown s) i ∷ xs)}
+        means-iff {P = StepHolds i × RestHolds n (shown s) (suc i) xs} {Q = RestHolds n (shown s) i (item_in n (shown s) i ∷ xs)}
         (λ h. ((h.0.0.0.1, h.0.0.1.0, h.0.1.0, h.1.0), (h.0.1.1.0, h.1.1), (h.0.1.1.1, h.1.2), ((h.0.0.0.0, h.0.0.1.1), all_join Sure (flat Key n (bare n d)) es h.0.1.1.2 h.1.3)))
         (λ h. ((((h.3.0.0, h.0.0), (h.0.1, h.3.0.1)), (h.0.2, (h.1.0, h.2.0, all_left Sure (flat Key n (bare n d)) es h.3.1))), (h.0.3, h.1.1, h.2.1, all_right Sure (flat Key n (bare n d)) es h.3.1)))
-        (means-seq size shown (item_step leaf kid s i) (each (λ (i : ℕ). item_step leaf kid s i) (range (suc i) m)) (StepP i) (RestP n (shown s) (suc i) xs) _ _ _ _ _ _ (means-step i) (means-items m (suc i)))
+        (means-seq size shown (item_step leaf kid s i) (each (λ (i : ℕ). item_step leaf kid s i) (range (suc i) m)) (StepHolds i) (RestHolds n (shown s) (suc i) xs) _ _ _ _ _ _ (means-step i) (means-items m (suc i)))
 
     module _ (deep : ℕ) where
-      abbrev BodyP : ℕ → Type 0
-      BodyP level = ((((mark_test s ≡ true) × (count_fits (kind_at level) leaf (word (shown s) count_at) ≡ true)) × (level_test deep leaf level ≡ true)) × KidP n (word (shown s) first_at))
-          × RestP n (shown s) 0 (map (item_in n (shown s)) (range 0 (word (shown s) count_at)))
+      abbrev BodyHolds : ℕ → Type 0
+      BodyHolds level = ((((mark_test s ≡ true) × (count_fits (kind_at level) leaf (word (shown s) count_at) ≡ true)) × (level_test deep leaf level ≡ true)) × KidHolds n (word (shown s) first_at))
+          × RestHolds n (shown s) 0 (map (item_in n (shown s)) (range 0 (word (shown s) count_at)))
 
       means-body : (level : ℕ) → let t = laid size shown (suc n) s in
-          Means size shown (body deep leaf kid level s) (BodyP level) (uses_page (uses n) t.1) (flat Key (suc n) (bare (suc n) t)) (flat Key (suc n) (bare (suc n) t))
+          Means size shown (body deep leaf kid level s) (BodyHolds level) (uses_page (uses n) t.1) (flat Key (suc n) (bare (suc n) t)) (flat Key (suc n) (bare (suc n) t))
       unfolding laid
       means-body level =
           let m₁ = means-ask size shown (mark_test s) (BadMark (at s)) in
@@ -166,7 +166,7 @@ module _ (size : ℕ) (shown : ℕ → Contents) where
           (means-seq size shown _ _ _ _ [] _ [] _ [] _ (means-seq size shown _ _ _ _ [] [] [] [] [] [] (means-seq size shown _ _ _ _ [] [] [] [] [] [] m₁ m₂) m₃) m₄) m₅
 
       pub body-page : (level low : ℕ) → low ≡ cond (eqb level 1) (cond leaf 0 1) fewest → level_test deep leaf level ≡ true → let t = laid size shown (suc n) s in
-          Means size shown (body deep leaf kid level s) (PageP low n s) (uses_page (uses n) t.1) (flat Key (suc n) (bare (suc n) t)) (flat Key (suc n) (bare (suc n) t))
+          Means size shown (body deep leaf kid level s) (PageHolds low n s) (uses_page (uses n) t.1) (flat Key (suc n) (bare (suc n) t)) (flat Key (suc n) (bare (suc n) t))
       unfolding laid
       body-page level low el lt = means-iff (λ h. to h) (λ h. back h) (means-body level)
         where
@@ -186,7 +186,7 @@ module _ (size : ℕ) (shown : ℕ → Contents) where
           least : least_of (kind_at level) leaf ≡ low
           least = least-is (eqb level 1) leaf ∙ sym el
 
-          to : BodyP level → PageP low n s
+          to : BodyHolds level → PageHolds low n s
           to h =
               let p = and_parts (eqb (word (shown s) page_mark_at) page_mark) _ h.0.0.0.0 in
               let q = and_parts (leb (least_of (kind_at level) leaf) (word (shown s) count_at)) (leb (word (shown s) count_at) most_entries) h.0.0.0.1 in
@@ -196,7 +196,7 @@ module _ (size : ℕ) (shown : ℕ → Contents) where
                 all_join Sure (flat Key n (bare n d)) es h.0.1.1.2 h.1.3,
               )
 
-          back : PageP low n s → BodyP level
+          back : PageHolds low n s → BodyHolds level
           back h =
               let p = h.0.0 in
               let f = h.1 in
@@ -285,7 +285,7 @@ module _ (size : ℕ) (shown : ℕ → Contents) where
     leaf-kids kid holder w = means-iff (λ e. (e, (tt, tt, tt))) (λ h. h.0) (means-none size shown holder w kid)
 
     pub means-page : (n fuel level : ℕ) → 1 ≤ level → level + n ≡ deep → n < fuel → (s : ℕ) →
-        Means size shown (ask_page size shown deep fuel level s) (PageP (cond (eqb level 1) (lowest n) fewest) n s) (uses_in n s) (names_in n s) (names_in n s)
+        Means size shown (ask_page size shown deep fuel level s) (PageHolds (cond (eqb level 1) (lowest n) fewest) n s) (uses_in n s) (names_in n s) (names_in n s)
     unfolding laid
     means-page n zero level l e u s = absurd (omega arith)
     means-page zero (suc fuel) level l e u s =
@@ -297,9 +297,9 @@ module _ (size : ℕ) (shown : ℕ → Contents) where
     means-page (suc n) (suc fuel) level l e u s =
         let kid = ask_page size shown deep fuel (suc level) in
         let lt = and_from _ _ (le-leb level most_levels (omega arith)) refl in
-        let r : (x : ℕ) → Means size shown (kid x) (PageP fewest n x) (uses_in n x) (names_in n x) (names_in n x) =
-        λ x. subst (λ (b : Bool). Means size shown (kid x) (PageP (cond b (lowest n) fewest) n x) (uses_in n x) (names_in n x) (names_in n x)) (ne_eqb (suc level) 1 (omega arith)) (means-page n fuel (suc level) (omega arith) (omega arith) (omega arith) x) in
-        let kids : Kids (suc n) false kid = λ holder w. means-link size shown holder w kid (λ x. PageP fewest n x) (λ x. uses_in n x) (λ x. names_in n x) (λ x. names_in n x) r in
+        let r : (x : ℕ) → Means size shown (kid x) (PageHolds fewest n x) (uses_in n x) (names_in n x) (names_in n x) =
+        λ x. subst (λ (b : Bool). Means size shown (kid x) (PageHolds (cond b (lowest n) fewest) n x) (uses_in n x) (names_in n x) (names_in n x)) (ne_eqb (suc level) 1 (omega arith)) (means-page n fuel (suc level) (omega arith) (omega arith) (omega arith) x) in
+        let kids : Kids (suc n) false kid = λ holder w. means-link size shown holder w kid (λ x. PageHolds fewest n x) (λ x. uses_in n x) (λ x. names_in n x) (λ x. names_in n x) r in
         finish deep false fuel level s _ _ _ (body-page (suc n) false kid kids s deep level (cond (eqb level 1) (lowest (suc n)) fewest) refl lt)
         (λ st st' h. let p = and_parts (leb level most_levels) (eqb level deep) (body-level deep true kid level s st st' h) in let v = eqb-true level deep p.1 in omega arith)
         (λ st p c. ne_eqb (word (shown s) first_at) 0 (λ z. let q = (free-head size shown (word (shown s) first_at / address_step) (others n s) st.met c.free).0 in omega arith))

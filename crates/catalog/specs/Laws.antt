@@ -1,4 +1,4 @@
--- Laws of the layout: what is found is what is laid, and which contents are read.
+-- Laws of the layout: what is found is what is laid, which contents are read, and what is written is laid.
 use Rattle.std.specs.Prelude.{◌≡◌, ℕ, zero, suc, ◌+◌, ◌*◌, ◌/◌, ◌^◌, ◌<◌, ◌≤◌, ◌⊎◌, ◌↔◌, true, cond, List, ◌∷◌, ◌++◌, length, take, reverse, Ok, Err, slice_index, slice_index_or}
 use Rattle.numbers.specs.Names.{Key, name_size}
 use Rattle.numbers.specs.Lengths.{sector_size, header_size, near_sectors, table_sectors, longest, last_sector, tables}

@@ -4,3 +4,4 @@ pub mod Lays
 pub mod Questions
 pub mod Written
 pub mod Laws
+pub mod Examples

@@ -3,6 +3,7 @@
 ghost use Rattle.catalog.specs.Laws.{FoundLaid, Unique, RefusedNone, Frame, FoundFrame};
 ghost use Rattle.catalog.specs.Laws.{MetSectors, Divides, Listed, LastLevel, FileAlone};
 ghost use Rattle.catalog.specs.Laws.{PageWritten, HeaderTyped, HeadWritten};
+ghost use Rattle.catalog.specs.Examples.{Examples};
 
 /// What is found is what is laid: a catalog is found exactly when the contents hold it, they hold no other, and where a question has a
 /// no they hold none.
@@ -44,4 +45,9 @@ pub fn written_stands()
     ensures page { PageWritten }
     ensures header { HeaderTyped }
     ensures head { HeadWritten }
+{}
+
+/// Small disks: three on which a catalog is found, and each refusal at each kind of place.
+pub fn examples_stand()
+    ensures { Examples }
 {}
