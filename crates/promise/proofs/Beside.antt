@@ -143,14 +143,3 @@ was-ready t (Write r b) h = h.0
 was-ready t (Register s) h = h.0
 was-ready t (Close s) h = h.0
 was-ready t (Names rs) h = h.0
-
-pub ready-behind : (t : Table) (c : Call) → Granted (before t c ++ behind t c) → t.ready ≡ true
-ready-behind t (New n) h = h.0
-ready-behind t (Old n) h = h.0
-ready-behind t (Delete n) h = h.0
-ready-behind t (Set s p) h = h.0
-ready-behind t (Read r b) h = h.0
-ready-behind t (Write r b) h = h.0
-ready-behind t (Register s) h = h.0
-ready-behind t (Close s) h = h.0
-ready-behind t (Names rs) h = h.0

@@ -7,20 +7,12 @@ use Rattle.numbers.specs.Names.{Key}
 use Rattle.tree.specs.Tree.{Entry}
 use Rattle.disk.specs.Meaning.{Contents, In}
 use Rattle.catalog.specs.Catalogs.{Extent, Catalog, entries, extents_sectors, page_sectors, file_sectors, bytes_of, Distinct}
+use Rattle.catalog.proofs.Frame.{in_right}
 use Rattle.catalog.specs.Lays.{FilesAt, Lays}
 use Rattle.promise.specs.Table.{found_file}
 use Rattle.promise.specs.Ledger.{file_number}
 
 -- LISTS
-in-left : {A : Type 0} (x : A) (xs ys : List A) → In x xs → In x (xs ++ ys)
-in-left x [] ys i = absurd i
-in-left x (y ∷ xs) ys (inl q) = inl q
-in-left x (y ∷ xs) ys (inr j) = inr (in-left x xs ys j)
-
-in-right : {A : Type 0} (x : A) (xs ys : List A) → In x ys → In x (xs ++ ys)
-in-right x [] ys i = i
-in-right x (y ∷ xs) ys i = inr (in-right x xs ys i)
-
 distinct-right : (xs ys : List ℕ) → Distinct (xs ++ ys) → Distinct ys
 distinct-right [] ys d = d
 distinct-right (x ∷ xs) ys d = distinct-right xs ys d.1
@@ -52,17 +44,17 @@ head-in (x ∷ l) r h = inl refl
 
 head-apart : (l r : List ℕ) (n : ℕ) → 1 ≤ length l → Distinct (l ++ r) → In n r → get_or l 0 0 ≡ n → ⊥
 head-apart [] r n h d i e = omega arith
-head-apart (x ∷ l) r n h d i e = d.0 (in-right x l r (subst (λ (k : ℕ). In k r) (sym e) i))
+head-apart (x ∷ l) r n h d i e = d.0 (in_right x l r (subst (λ (k : ℕ). In k r) (sym e) i))
 
 first-in : (xs : List Extent) (n : ℕ) → Begun xs → In n (map first_sector xs) → In n (extents_sectors xs)
 first-in [] n b i = i
 first-in (x ∷ xs) n b (inl q) = subst (λ (k : ℕ). In k (extents_sectors (x ∷ xs))) (sym q) (head-in x.parts (x.tabs ++ extents_sectors xs) b.0)
-first-in (x ∷ xs) n b (inr j) = in-right n x.parts (x.tabs ++ extents_sectors xs) (in-right n x.tabs (extents_sectors xs) (first-in xs n b.1 j))
+first-in (x ∷ xs) n b (inr j) = in_right n x.parts (x.tabs ++ extents_sectors xs) (in_right n x.tabs (extents_sectors xs) (first-in xs n b.1 j))
 
 firsts-distinct : (xs : List Extent) → Begun xs → Distinct (extents_sectors xs) → Distinct (map first_sector xs)
 firsts-distinct [] b d = tt
 firsts-distinct (x ∷ xs) b d = (
-  λ i. head-apart x.parts (x.tabs ++ extents_sectors xs) (first_sector x) b.0 d (in-right (first_sector x) x.tabs (extents_sectors xs) (first-in xs (first_sector x) b.1 i)) refl,
+  λ i. head-apart x.parts (x.tabs ++ extents_sectors xs) (first_sector x) b.0 d (in_right (first_sector x) x.tabs (extents_sectors xs) (first-in xs (first_sector x) b.1 i)) refl,
   firsts-distinct xs b.1 (distinct-right x.tabs (extents_sectors xs) (distinct-right x.parts (x.tabs ++ extents_sectors xs) d)),
 )
 

@@ -12,6 +12,10 @@ granted [] h = tt
 granted ((true else r) ∷ qs) h = (refl, granted qs h)
 granted ((false else r) ∷ qs) h = cc
 
+pub granted-left : (qs rs : List Question) → Granted (qs ++ rs) → Granted qs
+granted-left [] rs g = tt
+granted-left ((b else r) ∷ qs) rs g = (g.0, granted-left qs rs g.1)
+
 pub plain-accepts : (t : Table) (s : ℕ) (c : Call) → first (before t c ++ behind t c) ≡ None → plain t s c ≡ accepted t s c
 plain-accepts t s c h = ap (λ (o : Option FileFault). unless o t (accepted t s c)) h
 

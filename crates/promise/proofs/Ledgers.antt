@@ -78,13 +78,15 @@ written-covers x p w k c = record {
 }
 
 -- FILES
-file-set : (fs : List Written) (k n : ℕ) (w : Written) → (get_or (set fs k w) n no_file ≡ w) ⊎ (get_or (set fs k w) n no_file ≡ get_or fs n no_file)
-file-set [] k n w = inr refl
-file-set (f ∷ fs) zero zero w = inl refl
-file-set (f ∷ fs) zero (suc n) w = inr refl
-file-set (f ∷ fs) (suc k) zero w = inr refl
-file-set (f ∷ fs) (suc k) (suc n) w = file-set fs k n w
+-- after one was set
+pub file_at : (fs : List Written) (k n : ℕ) (w : Written) → ((n ≡ k) × (get_or (set fs k w) n no_file ≡ w)) ⊎ (get_or (set fs k w) n no_file ≡ get_or fs n no_file)
+file_at [] k n w = inr refl
+file_at (f ∷ fs) zero zero w = inl (refl, refl)
+file_at (f ∷ fs) zero (suc n) w = inr refl
+file_at (f ∷ fs) (suc k) zero w = inr refl
+file_at (f ∷ fs) (suc k) (suc n) w = elim (file_at fs k n w) [ inl q ↦ inl (ap suc q.0, q.1) | inr q ↦ inr q ]
 
+-- after one more without bytes
 pub file-more : (fs : List Written) (n : ℕ) → get_or (fs ++ (no_file ∷ [])) n no_file ≡ get_or fs n no_file
 file-more [] zero = refl
 file-more [] (suc n) = refl
@@ -181,7 +183,7 @@ put-file l k w c n = record {
   held = λ s x e. subst (λ (z : ℕ). x.file < z) (sym (length-set l.files k w)) (n.held s x e);
   apart = n.apart;
   once = n.once;
-  covers = λ m. elim (file-set l.files k m w) [ inl q ↦ subst Covers (sym q) c | inr q ↦ subst Covers (sym q) (n.covers m) ];
+  covers = λ m. elim (file_at l.files k m w) [ inl q ↦ subst Covers (sym q.1) c | inr q ↦ subst Covers (sym q) (n.covers m) ];
 }
 
 put-names : (l : Ledger) (ns : List (Entry Key)) → Rises cmp ns → Distinct (map file_number ns) → ((e : Entry Key) → In e ns → e.1 < length l.files) →

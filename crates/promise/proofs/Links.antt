@@ -1,5 +1,5 @@
 -- A table and the ledger beside it stay together when a file, a slot or the names of both change.
-use Rattle.std.proofs.Common.{◌≡◌, ℕ, zero, suc, ◌-◌, ◌<◌, Bool, true, false, cond, ◌⊎◌, List, [], ◌∷◌, map, length, get_or, set, Some, None, Option, sym, refl, ap, ◌∙◌, subst, inl, inr}
+use Rattle.std.proofs.Common.{◌≡◌, ℕ, ◌-◌, ◌<◌, Bool, true, false, cond, List, [], ◌∷◌, map, length, get_or, set, Some, None, Option, sym, refl, ap, ◌∙◌, subst, inl, inr}
 use Rattle.std.specs.Prelude.{◌==◌, nat_le}
 use Rattle.std.proofs.lemmas.List.{map-set, get_or-set_same, get_or-set_other}
 use Rattle.std.proofs.lemmas.Bool.{cases_eq, eq-eqb, ne_eqb}
@@ -12,6 +12,7 @@ use Rattle.promise.specs.Ledger.{Written, no_file, Ledger, numbered}
 use Rattle.promise.specs.Ledger.{with_names as names_in, with_slot as slot_in, with_file as file_in, Sane}
 use Rattle.promise.specs.Together.{Together, Live, entry_to, slot_to}
 use Rattle.promise.proofs.Slots.{slot-set}
+use Rattle.promise.proofs.Ledgers.{file_at}
 use Rattle.promise.proofs.Beside.{to}
 
 -- together by these first sectors, but for what is broken off
@@ -32,13 +33,6 @@ together sector t l g u = record { sector = sector; apart = g.apart; names = g.n
 pub live-known : (l : Ledger) (n : ℕ) → Sane l → Live l n → n < length l.files
 live-known l n v (inl q) = subst (λ (m : ℕ). m < length l.files) q.2 (v.known q.0 q.1)
 live-known l n v (inr q) = subst (λ (m : ℕ). m < length l.files) q.3 (v.held q.0 q.1 q.2)
-
-file_at : (fs : List Written) (k n : ℕ) (w : Written) → ((n ≡ k) × (get_or (set fs k w) n no_file ≡ w)) ⊎ (get_or (set fs k w) n no_file ≡ get_or fs n no_file)
-file_at [] k n w = inr refl
-file_at (f ∷ fs) zero zero w = inl (refl, refl)
-file_at (f ∷ fs) zero (suc n) w = inr refl
-file_at (f ∷ fs) (suc k) zero w = inr refl
-file_at (f ∷ fs) (suc k) (suc n) w = elim (file_at fs k n w) [ inl q ↦ inl (ap suc q.0, q.1) | inr q ↦ inr q ]
 
 pub one_less-to : (g : ℕ → ℕ) (y : Slot) → slot_to g (one_less y) ≡ one_less (to g y)
 one_less-to g y = go (nat_le y.handles 1)

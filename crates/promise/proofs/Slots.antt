@@ -23,9 +23,6 @@ holder-holds f [] h = absurd (omega arith)
 holder-holds f (None ∷ os) h = holder-holds f os (omega arith)
 holder-holds f (Some y ∷ os) h = go (y.file == f) refl (holder-holds f os) h
   where
-    Holds : ℕ → Type 0
-    Holds n = (x : Slot) × (get_or (Some y ∷ os) n None ≡ Some x) × (x.file ≡ f)
-
     go : (b : Bool) → (y.file == f) ≡ b → (holder f os < length os → (x : Slot) × (get_or os (holder f os) None ≡ Some x) × (x.file ≡ f)) → cond b 0 (suc (holder f os)) < suc (length os) →
         (x : Slot) × (get_or (Some y ∷ os) (cond b 0 (suc (holder f os))) None ≡ Some x) × (x.file ≡ f)
     go true e k h = (y, refl, eqb-true y.file f e)

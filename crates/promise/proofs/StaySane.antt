@@ -12,11 +12,11 @@ use Rattle.promise.specs.Promise.{Among, FilesAgree, Agrees}
 use Rattle.promise.specs.Together.{Together}
 use Rattle.promise.specs.Laws.{StaysSane}
 use Rattle.promise.proofs.Outcomes.{refused, done, broken, outcome, ledger}
-use Rattle.promise.proofs.Granted.{Granted, granted}
+use Rattle.promise.proofs.Granted.{Granted, granted, granted-left}
 use Rattle.promise.proofs.Restarted.{refilled-long}
 use Rattle.promise.proofs.Slots.{no-slot}
 use Rattle.promise.proofs.Ledgers.{no_file-covers, in-number, sound, sane, counts-sound, carried-sound, blank-sane}
-use Rattle.promise.proofs.Beside.{told, fate-told, register-legal, close-legal, legal, was-ready, ready-behind}
+use Rattle.promise.proofs.Beside.{told, fate-told, register-legal, close-legal, legal, was-ready}
 
 pub counts-broken : (l : Ledger) (s : ℕ) (c : Call) → (counts l s c).broken ≡ l.broken
 counts-broken l s (New n) = refl
@@ -55,7 +55,7 @@ turns t t' l c a p g v u = elim (outcome t u) [
   | refused r e i s ↦ subst Sane (sym (ap (follow l c) e ∙ ledger l c r i)) v
   | done s m b e i ↦
       let h = granted (before t c ++ behind t c) b in
-      subst Sane (sym (follow-counts t l s c a e)) (counts-sane l (told t c) c (g.unbroken (ready-behind t c h)).0 (legal t l g c p h) v)
+      subst Sane (sym (follow-counts t l s c a e)) (counts-sane l (told t c) c (g.unbroken (was-ready t c (granted-left (before t c) (behind t c) h))).0 (legal t l g c p h) v)
   | broken b s f i ↦
       let h = granted (before t c) b in
       subst Sane (sym (ap (followed l c) f)) (breaks-sane t l c g (g.unbroken (was-ready t c h)).0 h v)

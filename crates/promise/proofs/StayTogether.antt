@@ -17,13 +17,13 @@ use Rattle.promise.specs.Ledger.{Written, no_file, Ledger, blank, slot_of, numbe
 use Rattle.promise.specs.Ledger.{with_names as names_in, with_slot as slot_in, with_file as file_in}
 use Rattle.promise.specs.Together.{Together, Live, entry_to, slot_to}
 use Rattle.promise.proofs.Outcomes.{refused, done, broken, outcome, ledger}
-use Rattle.promise.proofs.Granted.{Granted, granted, used-is}
+use Rattle.promise.proofs.Granted.{Granted, granted, granted-left, used-is}
 use Rattle.promise.proofs.Directory.{order, found-in}
 use Rattle.promise.proofs.Accounts.{register-slot}
 use Rattle.promise.proofs.Slots.{slot-set, slot-now, unused-none, holder-holds, no-slot}
 use Rattle.promise.proofs.Entries.{put-in, without-in}
 use Rattle.promise.proofs.Ledgers.{file-more}
-use Rattle.promise.proofs.Beside.{told, to, slot-none, slot-is, slot-of, old-to, ready-behind}
+use Rattle.promise.proofs.Beside.{told, was-ready, to, slot-none, slot-is, slot-of, old-to}
 use Rattle.promise.proofs.StaySane.{counts-broken, follow-counts}
 use Rattle.promise.proofs.Links.{Linked, linked, together, live-known, one_less-to, without-to, put-to, slot-linked, names-linked, free-linked, file-linked, carried-linked, waiting}
 
@@ -270,7 +270,7 @@ turns t t' l c a p v g u = elim (outcome t u) [
   | done s m b e i ↦
       let h = granted (before t c ++ behind t c) b in
       let k = accepting t l s c p v g m h in
-      let n = g.unbroken (ready-behind t c h) in
+      let n = g.unbroken (was-ready t c (granted-left (before t c) (behind t c) h)) in
       subst (λ (x : Table). Together x (follow l c a)) (sym i) (subst (Together (accepted t s c).1) (sym (follow-counts t l s c a e))
       (together k.0 (accepted t s c).1 (counts l (told t c) c) k.1 (λ q. (counts-broken l (told t c) c ∙ n.0, counts-wiped l (told t c) c ∙ n.1))))
   | broken b s f i ↦
