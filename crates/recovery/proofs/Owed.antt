@@ -1,5 +1,6 @@
 -- From what a call owes to the put that turns.
 use Rattle.std.proofs.Common.{◌≡◌, ℕ, zero, suc, ◌<◌, ◌≤◌, Bool, true, false, ◌⊎◌, List, [], ◌∷◌, ◌++◌, map, length, get_or, set, sym, refl, ap, ◌∙◌, subst, inl, inr, arith}
+use Rattle.std.proofs.lemmas.List.{length-map}
 use Rattle.numbers.specs.Names.{Key, good_name}
 use Rattle.numbers.specs.Order.{Cmp, below, same, above, cmp}
 use Rattle.tree.specs.Tree.{Entry, pick, All}
@@ -23,16 +24,12 @@ but-past n [] e = refl
 but-past zero (x ∷ xs) e = absurd (omega arith)
 but-past (suc n) (x ∷ xs) e = ap (λ (z : List _). x ∷ z) (but-past n xs (omega arith))
 
-map-long : {A B : Type 0} (f : A → B) (xs : List A) → length (map f xs) ≡ length xs
-map-long f [] = refl
-map-long f (x ∷ xs) = ap suc (map-long f xs)
-
 pub without-but : (n : Key) (es : List (Entry Key)) → without cmp n es ≡ but (without_at n (map name_of es)) es
 without-but n [] = refl
 without-but n (e ∷ es) = go (without-but n es) (cmp n e.0)
   where
     go : without cmp n es ≡ but (without_at n (map name_of es)) es → (c : Cmp) → pick c (e ∷ es) es (e ∷ without cmp n es) ≡ but (pick c (suc (length (map name_of es))) 0 (suc (without_at n (map name_of es)))) (e ∷ es)
-    go q below = ap (λ (z : List (Entry Key)). e ∷ z) (sym (but-past (length (map name_of es)) es (sym (map-long name_of es))))
+    go q below = ap (λ (z : List (Entry Key)). e ∷ z) (sym (but-past (length (map name_of es)) es (sym (length-map es name_of))))
     go q same = refl
     go q above = ap (λ (z : List (Entry Key)). e ∷ z) q
 
