@@ -35,18 +35,18 @@ abbrev pub PutSteady : Type 0
 PutSteady = (l l' : Ledger) (c : Catalog) (m m' : Meaning) (k : ℕ) (b : Contents) → NonEmpty m → Plus k b m m' →
     Wider l l' → Harmless l' c k b → Steady l c m → Steady l' c m'
 
--- harmless are: anything in a sector that is not the catalog's,
+-- in a sector that is not the catalog's anything is harmless
 abbrev pub OutsideHarmless : Type 0
 OutsideHarmless = (l : Ledger) (size : ℕ) (s : ℕ → Contents) (c : Catalog) (k : ℕ) (b : Contents) → Lays size s c →
     (In k (page_sectors c ++ file_sectors c) → ⊥) → Harmless l c k b
 
--- possible bytes in a sector past the first of a file with a name,
+-- in a sector past the first of a file with a name, possible bytes are
 abbrev pub DataHarmless : Type 0
 DataHarmless = (l : Ledger) (size : ℕ) (s : ℕ → Contents) (c : Catalog) (e : Entry Key) (x : Extent) (i : ℕ) (b : Contents) → Agrees l size s c →
     Named e x l.names c.files → 1 ≤ i → i < length x.parts →
     ((p : ℕ) → p < x.long → (place p).0 ≡ i → In (slice_index b (place p).1) (possible_at (file_by l e) p)) → Harmless l c (slice_index x.parts i) b
 
--- the words in use in an extension table
+-- in an extension table, the words in use are
 abbrev pub TableHarmless : Type 0
 TableHarmless = (l : Ledger) (size : ℕ) (s : ℕ → Contents) (c : Catalog) (x : Extent) (i : ℕ) (b : Contents) → Agrees l size s c →
     In x c.files → i < length x.tabs →
@@ -69,7 +69,7 @@ abbrev pub WritingHarmless : Type 0
 WritingHarmless = (l : Ledger) (r : Rider) (w : List ℕ) (size : ℕ) (s : ℕ → Contents) (c : Catalog) (e : Entry Key) (x : Extent) (i : ℕ) (b : Contents) →
     Writing l r w size s c e x i b → Harmless (breaks l (Write r w)) c (slice_index x.parts i) b
 
--- at its end the ledger is the one that has followed it
+-- at its end the ledger is the one that has followed it, which is wider still
 abbrev pub WroteWider : Type 0
 WroteWider = (l : Ledger) (r : Rider) (w : List ℕ) (s : ℕ) → Wider (breaks l (Write r w)) (counts l s (Write r w))
 

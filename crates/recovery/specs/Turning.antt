@@ -19,7 +19,7 @@ abbrev pub PutTurns : Type 0
 PutTurns = (l l₁ l₂ : Ledger) (c d : Catalog) (m m' : Meaning) (k : ℕ) (b : Contents) → NonEmpty m → Plus k b m m' →
     Resolves l l₁ → Resolves l l₂ → Steady l₁ c m → ((s : ℕ → Contents) → Picks m s → Agrees l₂ m.size (with_sector s k b) d) → Recoverable l m'
 
--- REGISTER, CLOSE AND DELETE. A 3 before the Put that turns
+-- REGISTER, CLOSE AND DELETE. A 3 before the Put that turns, while the disk is steady
 abbrev pub StoppedRecoverable : Type 0
 StoppedRecoverable = (l : Ledger) (c : Catalog) (m : Meaning) (call : Call) → Steady l c m → Recoverable (breaks l call) m
 
@@ -48,7 +48,7 @@ empty_root = page_bytes (page_data 0 (page tt []))
 abbrev pub empty_catalog : Catalog
 empty_catalog = record { over = 0; root = (root_sector, page tt []); files = [] }
 
--- refused before its Put
+-- a Format that is refused before its Put
 abbrev pub WipingRecoverable : Type 0
 WipingRecoverable = (l : Ledger) (m : Meaning) → Recoverable l m → Recoverable (wiping l) m
 

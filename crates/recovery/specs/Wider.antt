@@ -1,4 +1,4 @@
--- Ledgers that say less than others, so that what agrees with one agrees with the other.
+-- Ledgers that allow more than others: what agrees with one agrees with a wider one.
 use Rattle.std.specs.Prelude.{◌≡◌, ℕ, Bool, true, false, length, ◌≢◌}
 use Rattle.numbers.specs.Names.{Key}
 use Rattle.tree.specs.Tree.{Entry}
@@ -48,7 +48,7 @@ CountsWider = (l : Ledger) (s : ℕ) (c : Call) → turns c ≡ false → Wider 
 abbrev pub CloseWider : Type 0
 CloseWider = (l : Ledger) (s h : ℕ) → ((e : Entry Key) → In e l.names → e.1 ≢ (slot_of l h).file) → Wider l (counts l s (Close h))
 
--- so a call without such a Put takes nothing, whatever it answers, and a refused one never
+-- so a call without such a Put takes nothing, whatever it answers, and a refused call never does
 abbrev pub FollowWider : Type 0
 FollowWider = (l : Ledger) (c : Call) (a : Answer) → turns c ≡ false → Wider l (follow l c a)
 
