@@ -1,22 +1,25 @@
 -- A store on a disk that was just formatted: a run begins with it, and a Start follows.
-use Rattle.std.proofs.Common.{◌≡◌, ℕ, zero, suc, ◌+◌, ◌<◌, ◌≤◌, Bool, true, false, cond, ltb, List, [], ◌∷◌, ◌++◌, map, get_or, None, Ok, sym, refl, ap, subst, inl, inr, arith}
+use Rattle.std.proofs.Common.{◌≡◌, ℕ, zero, suc, ◌+◌, ◌<◌, ◌≤◌, Bool, true, false, cond, ltb, List, [], ◌∷◌, ◌++◌, map, length, get_or, replicate, None, Some, Ok, sym, refl, ap, ◌∙◌, subst, inl, inr, arith}
 use Rattle.std.proofs.lemmas.Bool.{ltb-true}
 use Rattle.numbers.specs.Names.{Key}
 use Rattle.layout.specs.Words.{blank as zeros}
-use Rattle.tree.specs.Tree.{Entry}
+use Rattle.tree.specs.Tree.{Tree, to_list, Entry}
 use Rattle.disk.specs.Meaning.{Contents, In, Whole, Sound}
-use Rattle.catalog.specs.Catalogs.{Catalog, Distinct, range, member, entries, bytes_of}
+use Rattle.catalog.specs.Catalogs.{Row, plain_tree, overlaid, Catalog, Distinct, range, member, entries, bytes_of}
 use Rattle.catalog.specs.Lays.{root_sector}
 use Rattle.catalog.specs.Laws.{Sized}
 use Rattle.catalog.specs.Questions.{found}
 use Rattle.catalog.proofs.Counts.{member-false, in-occ, length-range}
 use Rattle.catalog.proofs.Found.{found-laid-both, unique}
-use Rattle.promise.specs.Table.{Done, No, no_slots, formatted, started, Proper, done}
+use Rattle.promise.specs.declared.fault.FileFault.{FileFault}
+use Rattle.promise.specs.declared.fault.FileFault.TheVariants.{Waiting}
+use Rattle.promise.specs.Table.{Done, No, no_slots, formatted, started, Proper, done, New, Names, Named, Turn, said, first, ◌else◌, plain, records, Table, Answer}
 use Rattle.promise.specs.Table.{done as start_done}
 use Rattle.promise.specs.Ledger.{Ledger, blank, renumbered, refilled, restarted}
 use Rattle.promise.specs.Promise.{Agrees, name_of}
 use Rattle.promise.specs.Promise.{formatted as run_formatted}
-use Rattle.promise.specs.Calls.{Holds, Starts}
+use Rattle.promise.specs.Calls.{Turned, Did, Holds, Starts}
+use Rattle.promise.proofs.Granted.{plain-accepts}
 use Rattle.promise.proofs.Slots.{no-slot}
 use Rattle.promise.proofs.Ledgers.{blank-sane}
 use Rattle.promise.proofs.StayTogether.{formats}
@@ -190,4 +193,56 @@ start_card = record {
   picked = λ g y. (steady.settled, λ n i. inl refl);
   keeps = λ l r k e. not-no r e;
   goes_on = λ l l' c k e r a. goes-on l' c (map (bytes_of (holding empty_root zeros)) c.files) a;
+}
+
+-- A CALL: the names are listed into no records
+none_at : {A : Type 0} (n s : ℕ) (x : A) → get_or (replicate n None) s None ≡ Some x → ⊥
+none_at zero s x e = let z : ◌≡◌ {A = ℕ} 0 1 = cc in omega arith
+none_at (suc n) zero x e = let z : ◌≡◌ {A = ℕ} 0 1 = cc in omega arith
+none_at (suc n) (suc s) x e = none_at n s x e
+
+asked-ready : (b : Bool) → b ≡ true → first ((b else Waiting) ∷ []) ≡ None
+asked-ready b e = subst (λ (z : Bool). first ((z else Waiting) ∷ []) ≡ None) (sym e) refl
+
+not-new : {A : Type 0} (n : Key) → Names [] ≡ New n → A
+not-new n e = let z : ◌≡◌ {A = ℕ} 0 1 = cc in absurd (omega arith)
+
+named-no : {A : Type 0} (r : FileFault) → Named 0 [] ≡ No r → A
+named-no r e = let z : ◌≡◌ {A = ℕ} 0 1 = cc in absurd (omega arith)
+
+named-done : {A : Type 0} → Named 0 [] ≡ Done → A
+named-done e = let z : ◌≡◌ {A = ℕ} 0 1 = cc in absurd (omega arith)
+
+none-some : {A : Type 0} (s : ℕ) → None ≡ Some s → A
+none-some s e = let z : ◌≡◌ {A = ℕ} 0 1 = cc in absurd (omega arith)
+
+listed : (t : Table) → Holds fresh t → Turned fresh t (Names []) (Named 0 []) fresh
+listed t h = record {
+  table = t;
+  turn = subst (λ (p : Answer × Table). Turn t (Names []) p.0 p.1) step (said (Names []) 0 refl);
+  ready = h.ready;
+  holds = λ e. h;
+  took = λ n s e. not-new n e;
+  answered = record { lost = (λ x. sym x, λ x. sym x); accepts = λ m d. refl; calm = λ m. m; size = refl };
+  unput = λ r e. named-no r e;
+  head = λ s o e. none-some s e;
+  others = λ e s o f. absurd (none_at 8 s o f);
+  pages = λ e. named-done e;
+}
+  where
+    tree : t.tree ≡ plain_tree empty_catalog
+    tree = sym h.tree ∙ ap (λ (c : Catalog). plain_tree c) (unique 11 (holding empty_root zeros) h.catalog empty_catalog sized refl h.lays agrees.lays)
+
+    none : records t ≡ []
+    none = ap (λ (x : Tree Key). map (λ (e : Entry Key). record { name = e.0; first = e.1; long = (t.files e.1).closed }) (to_list x)) tree
+
+    step : plain t 0 (Names []) ≡ (Named 0 [], t)
+    step = plain-accepts t 0 (Names []) (asked-ready t.ready (sym h.ready)) ∙ ap (λ (rs : List Row). (Named (length rs) (overlaid rs []), t)) none
+
+pub list_card : Did Kept fresh (Names []) (Named 0 []) fresh
+list_card = record {
+  waits = λ e. not-both true e refl;
+  turns = λ e t h. listed t h;
+  size = refl;
+  keeps = λ l k. k;
 }

@@ -10,10 +10,10 @@ use Rattle.disk.specs.Meaning.{Contents, Meaning}
 use Rattle.catalog.specs.Catalogs.{Laid, Extent, Catalog, range, bytes_of}
 use Rattle.catalog.specs.Lays.{root_sector}
 use Rattle.catalog.specs.Written.{page_data, header_of}
-use Rattle.promise.specs.Table.{Sort, Anonymous, Registered, Slot, Done, no_slots}
+use Rattle.promise.specs.Table.{Sort, Anonymous, Registered, Slot, Names, Done, Named, no_slots}
 use Rattle.promise.specs.Ledger.{Written, Ledger, blank, closing}
 use Rattle.promise.specs.Promise.{View}
-use Rattle.promise.specs.Calls.{Starts}
+use Rattle.promise.specs.Calls.{Did, Starts}
 use Rattle.recovery.specs.Picks.{with_sector}
 use Rattle.recovery.specs.Harmless.{Writing}
 use Rattle.recovery.specs.Turning.{empty_root, empty_catalog, FormatOwes}
@@ -91,6 +91,7 @@ pub record Cards : Type 0 where
   pub format : FormatOwes (knowing named_a seven_closed no_slots) (eleven (holding root_a (head_a (short 1) (7 ∷ [])))) empty_root
   -- the last byte of the longer file is written
   pub write : Writing (knowing named_a longer_closed (slot_a Registered)) (record { slot = 0; place = 672; end = false }) (7 ∷ []) 11 longer_shown (catalog_a longer) (name_a, 0) longer 1 (written zeros 0 (7 ∷ []))
-  -- a run begins, and a Start follows
+  -- a run begins with a Format, goes on with a call, here a List into no records, and a Start follows
   pub run : Runs blank fresh
+  pub call : Did Kept fresh (Names []) (Named 0 []) fresh
   pub start : Starts Kept fresh Done fresh

@@ -89,7 +89,7 @@ pub fn keeping_stands()
     ensures { Keeps }
 {}
 
-/// What each call owes is met on a small disk, a run begins on one, and a Start follows.
+/// What each call owes is met on a small disk; a run begins on one, goes on with a call, and a Start follows.
 pub fn cards_stand()
     ensures { Cards }
 {}
