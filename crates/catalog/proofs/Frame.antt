@@ -42,14 +42,14 @@ word_same c d e i h =
     cc
 
 module _ (shown shown' : ℕ → Contents) where
-  laid-same : (n : ℕ) (t : Laid n) → ((s : ℕ) → In s (sectors_laid n t) → shown' s ≡ shown s) → LaidAt shown n t → LaidAt shown' n t
+  pub laid-same : (n : ℕ) (t : Laid n) → ((s : ℕ) → In s (sectors_laid n t) → shown' s ≡ shown s) → LaidAt shown n t → LaidAt shown' n t
   laid-same zero t e h = tt
   laid-same (suc n) t e h = (
     subst (λ (c : Contents). PageAt n c t.1) (sym (e t.0 (inl refl))) h.0,
     children (λ s. shown' s ≡ shown s) (sectors_laid n) (LaidAt shown n) (LaidAt shown' n) (λ d k. laid-same n d k) t.1 (λ s i. e s (inr i)) h.1,
   )
 
-  file-same : (s : ℕ) (x : Extent) → take header_size (shown' (get_or x.parts 0 0)) ≡ take header_size (shown (get_or x.parts 0 0)) →
+  pub file-same : (s : ℕ) (x : Extent) → take header_size (shown' (get_or x.parts 0 0)) ≡ take header_size (shown (get_or x.parts 0 0)) →
       ((k j : ℕ) → j < table_sectors → near_sectors + table_sectors * k + j < length x.parts → word (shown' (get_or x.tabs k 0)) (word_size * j) ≡ word (shown (get_or x.tabs k 0)) (word_size * j)) →
       FileAt shown s x → FileAt shown' s x
   file-same s x e t h =

@@ -1,0 +1,13 @@
+pub mod Steps
+pub mod Lists
+pub mod Agreement
+pub mod Wider
+pub mod Harmless
+pub mod Turning
+pub mod Calls
+pub mod Owed
+pub mod Divided
+pub mod Kept
+pub mod Cards
+pub mod Fresh
+pub mod Keeping
