@@ -5,7 +5,7 @@ use Rattle.numbers.specs.Names.{Key}
 use Rattle.layout.specs.Words.{blank as zeros}
 use Rattle.tree.specs.Tree.{Tree, to_list, Entry}
 use Rattle.disk.specs.Meaning.{Contents, In, Whole, Sound}
-use Rattle.catalog.specs.Catalogs.{Row, plain_tree, overlaid, Catalog, Distinct, range, member, entries, bytes_of}
+use Rattle.catalog.specs.Catalogs.{Extent, Row, plain_tree, overlaid, Catalog, Distinct, range, member, entries, bytes_of}
 use Rattle.catalog.specs.Lays.{root_sector}
 use Rattle.catalog.specs.Laws.{Sized}
 use Rattle.catalog.specs.Questions.{found}
@@ -18,7 +18,7 @@ use Rattle.promise.specs.Table.{done as start_done}
 use Rattle.promise.specs.Ledger.{Ledger, blank, renumbered, refilled, restarted}
 use Rattle.promise.specs.Promise.{Agrees, name_of}
 use Rattle.promise.specs.Promise.{formatted as run_formatted}
-use Rattle.promise.specs.Calls.{Turned, Did, Holds, Starts}
+use Rattle.promise.specs.Calls.{OpenAs, seen, uses, Turned, Did, Holds, Starts}
 use Rattle.promise.proofs.Granted.{plain-accepts}
 use Rattle.promise.proofs.Slots.{no-slot}
 use Rattle.promise.proofs.Ledgers.{blank-sane}
@@ -93,6 +93,7 @@ proper = record {
 holds : Holds fresh (formatted 11)
 unfolding once range
 holds = record {
+  size = refl;
   ready = refl;
   live = refl;
   slots = refl;
@@ -103,6 +104,7 @@ holds = record {
   named = tt;
   extents = [];
   open' = tt;
+  grown = λ x y i j. absurd j;
   apart = once-distinct (fresh.free ++ (1 ∷ [])) refl;
   inside = λ s i. elim (in_split s fresh.free [] i) [ inl j ↦ range-within 2 9 s j | inr z ↦ absurd z ];
   proper = proper;
@@ -130,6 +132,7 @@ run_card = run_formatted {v = fresh} (record {
   root = λ e. (refl, steady.settled);
   small = λ e. refl;
   answered = λ e. record { lost = (λ x. sym x, λ x. sym x); accepts = λ m d. refl; calm = λ m. m; size = refl };
+  dead = λ e. e;
   size = refl;
   begins = λ e. kept;
   keeps = λ l r k e. not-no r e;
@@ -216,22 +219,37 @@ named-done e = let z : ◌≡◌ {A = ℕ} 0 1 = cc in absurd (omega arith)
 none-some : {A : Type 0} (s : ℕ) → None ≡ Some s → A
 none-some s e = let z : ◌≡◌ {A = ℕ} 0 1 = cc in absurd (omega arith)
 
-listed : (t : Table) → Holds fresh t → Turned fresh t (Names []) (Named 0 []) fresh
+-- no file is open
+unopened : (t : Table) (xs : List Extent) → OpenAs (seen fresh) t fresh.slots xs → xs ≡ []
+unopened t [] o = refl
+unopened t (x ∷ xs) o = absurd o
+
+catalog-is : (t : Table) (h : Holds fresh t) → h.catalog ≡ empty_catalog
+catalog-is t h = unique 11 (holding empty_root zeros) h.catalog empty_catalog sized refl h.lays agrees.lays
+
+uses-are : (t : Table) (h : Holds fresh t) → uses t h.catalog h.extents ≡ uses t empty_catalog []
+uses-are t h = ap (λ (c : Catalog). uses t c h.extents) (catalog-is t h) ∙ ap (λ (xs : List Extent). uses t empty_catalog xs) (unopened t h.extents h.open')
+
+listed : (t : Table) (h : Holds fresh t) → Turned fresh t h (Names []) (Named 0 []) fresh
 listed t h = record {
   table = t;
   turn = subst (λ (p : Answer × Table). Turn t (Names []) p.0 p.1) step (said (Names []) 0 refl);
   ready = h.ready;
   holds = λ e. h;
-  took = λ n s e. not-new n e;
+  new = λ n s e. not-new n e;
+  took = λ g s i. inr (subst (λ (xs : List ℕ). In s xs) (uses-are t g ∙ sym (uses-are t h)) i);
+  freed = λ g s i. inl i;
   answered = record { lost = (λ x. sym x, λ x. sym x); accepts = λ m d. refl; calm = λ m. m; size = refl };
   unput = λ r e. named-no r e;
+  settled = λ e. named-done e;
   head = λ s o e. none-some s e;
-  others = λ e s o f. absurd (none_at 8 s o f);
+  others = λ s o e f. (refl, λ x i. i);
+  moved = λ e. named-done e;
   pages = λ e. named-done e;
 }
   where
     tree : t.tree ≡ plain_tree empty_catalog
-    tree = sym h.tree ∙ ap (λ (c : Catalog). plain_tree c) (unique 11 (holding empty_root zeros) h.catalog empty_catalog sized refl h.lays agrees.lays)
+    tree = sym h.tree ∙ ap (λ (c : Catalog). plain_tree c) (catalog-is t h)
 
     none : records t ≡ []
     none = ap (λ (x : Tree Key). map (λ (e : Entry Key). record { name = e.0; first = e.1; long = (t.files e.1).closed }) (to_list x)) tree

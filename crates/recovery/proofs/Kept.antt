@@ -1,6 +1,7 @@
 -- A run keeps what its store keeps, and gives the whole promise by it.
 use Rattle.std.proofs.Common.{◌≡◌, ℕ, Bool, true, false, Ok, sym, refl, ap, subst, arith}
-use Rattle.disk.specs.Meaning.{Contents, Meaning}
+use Rattle.disk.specs.Meaning.{Contents}
+use Rattle.disk.specs.Rules.{Fewer}
 use Rattle.catalog.specs.Catalogs.{Catalog}
 use Rattle.catalog.specs.Laws.{Sized}
 use Rattle.catalog.specs.Questions.{good_size, found}
@@ -12,7 +13,7 @@ use Rattle.promise.specs.Promise.{View, Run, formatted, unformatted, turned, sto
 use Rattle.promise.specs.Calls.{says_three, Holds, Formatted, Did, Starts}
 use Rattle.recovery.specs.Picks.{Recovers, Recoverable}
 use Rattle.recovery.specs.Kept.{Kept, RunKept, RunSize, RunPromise}
-use Rattle.recovery.proofs.Steps.{resized}
+use Rattle.recovery.proofs.Steps.{resized, less-recoverable}
 use Rattle.recovery.proofs.Wider.{not-both}
 use Rattle.recovery.proofs.Divided.{started-divided}
 
@@ -36,14 +37,14 @@ start-table n shown t t' a c f d (done k b) = let e : k ≡ c = cc in ap (λ (z 
 
 -- for any K that makes the disk recoverable, and that is kept where a store is made anew
 module _ (K : Ledger → View → Type 0) (recovers : (l : Ledger) (v : View) → K l v → Recoverable l v.disk)
-    (remade : (l : Ledger) (v v' : View) → K l v → v'.ready ≡ false → v'.disk ≡ v.disk → K l v') where
+    (remade : (l : Ledger) (v v' : View) → K l v → v'.ready ≡ false → v'.disk.size ≡ v.disk.size → Fewer v.disk v'.disk → K l v') where
   pub run-keeps : {l : Ledger} {v : View} → Run (Formatted K) (Did K) (Starts K) l v → K l v
   run-keeps (formatted f) = f.begins refl
   run-keeps (unformatted r f) = f.keeps _ _ (run-keeps r) refl
   run-keeps (turned r d) = d.keeps _ (run-keeps r)
   run-keeps (stopped r s) = s.keeps _ _ (run-keeps r) refl
   run-keeps (started r s e a) = s.goes_on _ _ _ (run-keeps r) refl e a
-  run-keeps (anew {l} {v} {v'} r n e) = remade l v v' (run-keeps r) n e
+  run-keeps (anew {l} {v} {v'} r n e f) = remade l v v' (run-keeps r) n e f
 
   pub run-sizes : {l : Ledger} {v : View} → Run (Formatted K) (Did K) (Starts K) l v → good_size v.disk.size ≡ true
   run-sizes (formatted {v} {v'} f) = let r = f.turns (empty_table v.disk.size) in
@@ -52,7 +53,7 @@ module _ (K : Ledger → View → Type 0) (recovers : (l : Ledger) (v : View) �
   run-sizes (turned r d) = subst (λ (z : ℕ). good_size z ≡ true) (sym d.size) (run-sizes r)
   run-sizes (stopped r s) = subst (λ (z : ℕ). good_size z ≡ true) (sym s.size) (run-sizes r)
   run-sizes (started r s e a) = subst (λ (z : ℕ). good_size z ≡ true) (sym s.size) (run-sizes r)
-  run-sizes (anew {l} {v} {v'} r n e) = subst (λ (z : Meaning). good_size z.size ≡ true) (sym e) (run-sizes r)
+  run-sizes (anew {l} {v} {v'} r n e f) = subst (λ (z : ℕ). good_size z ≡ true) (sym e) (run-sizes r)
 
   -- a Start of a run that leaves the disk live
   module _ (v : View) (a : Answer) (v' : View) (s : Starts K v a v') where
@@ -120,10 +121,10 @@ module _ (K : Ledger → View → Type 0) (recovers : (l : Ledger) (v : View) �
 kept-recovers : (l : Ledger) (v : View) → Kept l v → Recoverable l v.disk
 kept-recovers l v k = k.recovers
 
-kept-remade : (l : Ledger) (v v' : View) → Kept l v → v'.ready ≡ false → v'.disk ≡ v.disk → Kept l v'
-kept-remade l v v' k n e = record {
+kept-remade : (l : Ledger) (v v' : View) → Kept l v → v'.ready ≡ false → v'.disk.size ≡ v.disk.size → Fewer v.disk v'.disk → Kept l v'
+kept-remade l v v' k n e f = record {
   sane = k.sane;
-  recovers = subst (λ (z : Meaning). Recoverable l z) (sym e) k.recovers;
+  recovers = less-recoverable l v.disk v'.disk (record { size = e; fewer = f }) k.recovers;
   ready = λ y. not-both v'.ready n y;
 }
 
