@@ -1,5 +1,5 @@
 -- A store on a disk that was just formatted: a run begins with it, and a Start follows.
-use Rattle.std.proofs.Common.{◌≡◌, ℕ, zero, suc, ◌+◌, ◌<◌, ◌≤◌, Bool, true, false, cond, ltb, List, [], ◌∷◌, ◌++◌, map, length, get_or, replicate, None, Some, Ok, sym, refl, ap, ◌∙◌, subst, inl, inr, arith}
+use Rattle.std.proofs.Common.{◌≡◌, ℕ, zero, suc, ◌+◌, ◌<◌, ◌≤◌, Bool, true, false, cond, ltb, List, [], ◌∷◌, ◌++◌, map, length, get_or, None, Some, Ok, sym, refl, ap, ◌∙◌, subst, inl, inr, arith}
 use Rattle.std.proofs.lemmas.Bool.{ltb-true}
 use Rattle.numbers.specs.Names.{Key}
 use Rattle.layout.specs.Words.{blank as zeros}
@@ -199,11 +199,6 @@ start_card = record {
 }
 
 -- A CALL: the names are listed into no records
-none_at : {A : Type 0} (n s : ℕ) (x : A) → get_or (replicate n None) s None ≡ Some x → ⊥
-none_at zero s x e = let z : ◌≡◌ {A = ℕ} 0 1 = cc in omega arith
-none_at (suc n) zero x e = let z : ◌≡◌ {A = ℕ} 0 1 = cc in omega arith
-none_at (suc n) (suc s) x e = none_at n s x e
-
 asked-ready : (b : Bool) → b ≡ true → first ((b else Waiting) ∷ []) ≡ None
 asked-ready b e = subst (λ (z : Bool). first ((z else Waiting) ∷ []) ≡ None) (sym e) refl
 
