@@ -14,3 +14,4 @@ pub mod StayTogether
 pub mod Firsts
 pub mod StartTogether
 pub mod StartProper
+pub mod Holding

@@ -1,6 +1,6 @@
 //! What holds of the table, of the ledger, and of the two together, each stated by the contract of a function.
 
-ghost use Rattle.promise.specs.Laws.{StaysProper, Accounts, Refusals, StaysSane, RestartForgets, StayTogether};
+ghost use Rattle.promise.specs.Laws.{StaysProper, Accounts, Refusals, StaysSane, RestartForgets, StayTogether, HoldsOne};
 
 /// Every call keeps the table proper, whatever it answers.
 pub fn proper_stands()
@@ -30,4 +30,9 @@ pub fn restart_stands()
 /// Table and ledger go together, through every call, after a format and after an accepted start.
 pub fn together_stand()
     ensures { StayTogether }
+{}
+
+/// A store holds one table, as far as anything of it can be seen.
+pub fn holds_stands()
+    ensures { HoldsOne }
 {}
