@@ -1,5 +1,5 @@
 -- A store holds one table, as far as anything of it can be seen.
-use Rattle.std.proofs.Common.{◌≡◌, ℕ, zero, suc, ◌+◌, ◌-◌, ◌*◌, ◌/◌, ◌%◌, ◌<◌, ◌≤◌, ◌⊎◌, Bool, true, false, cond, List, [], ◌∷◌, map, length, get_or, Some, None, Option, sym, refl, ap, ◌∙◌, subst, inl, inr, arith}
+use Rattle.std.proofs.Common.{◌≡◌, ℕ, zero, suc, ◌+◌, ◌-◌, ◌*◌, ◌/◌, ◌%◌, ◌<◌, ◌≤◌, ◌⊎◌, Bool, true, false, cond, List, [], ◌∷◌, map, length, get_or, Some, None, Option, sym, refl, ap, ◌∙◌, subst, ap₂, inl, inr, arith}
 use Rattle.std.specs.Prelude.{◌==◌}
 use Rattle.std.proofs.lemmas.Bool.{cases_eq, cases_lt}
 use Rattle.std.proofs.lemmas.Option.{none-some}
@@ -11,12 +11,13 @@ use Rattle.numbers.proofs.Sizes.{most}
 use Rattle.layout.specs.Words.{word_size, word}
 use Rattle.tree.specs.Tree.{Entry, to_list}
 use Rattle.disk.specs.Meaning.{Contents, In}
-use Rattle.catalog.specs.Catalogs.{Extent, Catalog, plain_tree, entries, bytes_of}
+use Rattle.catalog.specs.Catalogs.{Extent, Catalog, plain_tree, entries}
+use Rattle.catalog.specs.Laws.{Sized}
 use Rattle.catalog.specs.Lays.{Reaches}
 use Rattle.catalog.proofs.Found.{unique}
 use Rattle.promise.specs.Table.{Slot, Table, slot_at, slot_count, holder}
-use Rattle.promise.specs.Promise.{Open}
-use Rattle.promise.specs.Calls.{seen, slot_in, NamedAs, OpenAs}
+use Rattle.promise.specs.Promise.{Open, View}
+use Rattle.promise.specs.Calls.{seen, slot_in, NamedAs, OpenAs, Holds}
 use Rattle.promise.specs.Laws.{HoldsOne}
 use Rattle.promise.proofs.Slots.{holder-holds}
 use Rattle.promise.proofs.StartProper.{bytes-long}
@@ -56,22 +57,29 @@ module _ (shown : ℕ → Contents) (s : ℕ) (x y : Extent) (fits : x.long ≤ 
       (same_number_lists x.tabs y.tabs (r.tabs ∙ (ap (λ (z : ℕ). tables (last_sector z)) same ∙ sym q.tabs)) (λ k l. tabs-same k (omega arith)))
 
 -- FILES of slots and of names
-module _ (shown : ℕ → Contents) (t t' : Table) (lengths : (n : ℕ) → length (t.files n).bytes ≤ longest) where
-  open-same : (os : List (Option Open)) (xs ys : List Extent) → OpenAs shown t os xs → OpenAs shown t' os ys →
-      (s : ℕ) (x : Slot) → get_or (map slot_in os) s None ≡ Some x → (t.files x.file).bytes ≡ (t'.files x.file).bytes
-  open-same [] xs ys h k s x e = absurd (none-some x e)
-  open-same (None ∷ os) xs ys h k zero x e = absurd (none-some x e)
-  open-same (None ∷ os) xs ys h k (suc s) x e = open-same os xs ys h k s x e
-  open-same (Some o ∷ os) [] ys h k s x e = absurd h
-  open-same (Some o ∷ os) (y ∷ xs) [] h k s x e = absurd k
-  open-same (Some o ∷ os) (y ∷ xs) (z ∷ ys) h k (suc s) x e = open-same os xs ys h.3 k.3 s x e
-  open-same (Some o ∷ os) (y ∷ xs) (z ∷ ys) h k zero x e =
+module _ (shown : ℕ → Contents) (t t' : Table) where
+  open-one : ((n : ℕ) → length (t.files n).bytes ≤ longest) → (os : List (Option Open)) (xs ys : List Extent) → OpenAs shown t os xs → OpenAs shown t' os ys → xs ≡ ys
+  open-one f [] [] [] h k = refl
+  open-one f [] [] (y ∷ ys) h k = absurd k
+  open-one f [] (x ∷ xs) ys h k = absurd h
+  open-one f (None ∷ os) xs ys h k = open-one f os xs ys h k
+  open-one f (Some o ∷ os) [] ys h k = absurd h
+  open-one f (Some o ∷ os) (x ∷ xs) [] h k = absurd k
+  open-one f (Some o ∷ os) (x ∷ xs) (y ∷ ys) h k =
       let n = o.slot.file in
-      let l : y.long ≤ longest = subst (λ (m : ℕ). m ≤ longest) (ap length h.2 ∙ bytes-long shown y) (lengths n) in
-      let q = one-file shown n y z l (h.1 ∙ sym k.1) h.0 k.0 in
-      let b : (t.files n).bytes ≡ (t'.files n).bytes = h.2 ∙ (ap (bytes_of shown) q ∙ sym k.2) in
+      let l : x.long ≤ longest = subst (λ (m : ℕ). m ≤ longest) (ap length h.2 ∙ bytes-long shown x) (f n) in
+      ap₂ ◌∷◌ (one-file shown n x y l (h.1 ∙ sym k.1) h.0 k.0) (open-one f os xs ys h.3 k.3)
+
+  open-same : (os : List (Option Open)) (xs : List Extent) → OpenAs shown t os xs → OpenAs shown t' os xs →
+      (s : ℕ) (x : Slot) → get_or (map slot_in os) s None ≡ Some x → (t.files x.file).bytes ≡ (t'.files x.file).bytes
+  open-same [] xs h k s x e = absurd (none-some x e)
+  open-same (None ∷ os) xs h k zero x e = absurd (none-some x e)
+  open-same (None ∷ os) xs h k (suc s) x e = open-same os xs h k s x e
+  open-same (Some o ∷ os) [] h k s x e = absurd h
+  open-same (Some o ∷ os) (y ∷ xs) h k (suc s) x e = open-same os xs h.3 k.3 s x e
+  open-same (Some o ∷ os) (y ∷ xs) h k zero x e =
       let f : o.slot ≡ x = cc in
-      subst (λ (i : Slot). (t.files i.file).bytes ≡ (t'.files i.file).bytes) f b
+      subst (λ (i : Slot). (t.files i.file).bytes ≡ (t'.files i.file).bytes) f (h.2 ∙ sym k.2)
 
   named-same : t.slots ≡ t'.slots → ((n : ℕ) → (holder n t.slots ≡ slot_count → ⊥) → (t.files n).bytes ≡ (t'.files n).bytes) →
       (es : List (Entry Key)) (xs : List Extent) → NamedAs shown t es xs → NamedAs shown t' es xs →
@@ -96,20 +104,29 @@ holder-most n (Some x ∷ os) = go (x.file == n) (holder-most n os)
     go true r = omega arith
     go false r = omega (arith, r)
 
+-- its catalog and the extents of its open files
+module _ (v : View) (t t' : Table) (sized : Sized v.disk.size v.disk.shown) (h : Holds v t) (k : Holds v t') where
+  pub catalog-one : h.catalog ≡ k.catalog
+  catalog-one = unique v.disk.size v.disk.shown h.catalog k.catalog sized h.size h.lays k.lays
+
+  pub extents-one : h.extents ≡ k.extents
+  extents-one = open-one (seen v) t t' (λ n. (h.proper.lengths n).0) v.slots h.extents k.extents h.open' k.open'
+
 pub holds-one : HoldsOne
 holds-one v t t' sized h k =
-    let c = unique v.disk.size v.disk.shown h.catalog k.catalog sized h.size h.lays k.lays in
+    let c = catalog-one v t t' sized h k in
+    let x = extents-one v t t' sized h k in
     let slots : t.slots ≡ t'.slots = sym h.slots ∙ k.slots in
     let tree : t.tree ≡ t'.tree = sym h.tree ∙ (ap plain_tree c ∙ k.tree) in
     let held : (s : ℕ) (x : Slot) → slot_at t s ≡ Some x → (t.files x.file).bytes ≡ (t'.files x.file).bytes =
-    λ s x e. open-same (seen v) t t' (λ n. (h.proper.lengths n).0) v.slots h.extents k.extents h.open' k.open' s x (ap (λ (os : List (Option Slot)). get_or os s None) h.slots ∙ e) in
+    λ s y e. open-same (seen v) t t' v.slots h.extents h.open' (subst (OpenAs (seen v) t' v.slots) (sym x) k.open') s y (ap (λ (os : List (Option Slot)). get_or os s None) h.slots ∙ e) in
     let eight = h.proper.eight in
     let other : (n : ℕ) → (holder n t.slots ≡ slot_count → ⊥) → (t.files n).bytes ≡ (t'.files n).bytes =
     λ n z. (let l = holder-most n t.slots in
     let lt : holder n t.slots < length t.slots = omega (arith, z, l, eight) in
     let r = holder-holds n t.slots lt in
     subst (λ (m : ℕ). (t.files m).bytes ≡ (t'.files m).bytes) r.2 (held (holder n t.slots) r.0 r.1)) in
-    let named = named-same v.disk.shown t t' (λ n. (h.proper.lengths n).0) slots other (entries h.catalog) h.catalog.files h.named
+    let named = named-same v.disk.shown t t' slots other (entries h.catalog) h.catalog.files h.named
     (subst (λ (z : Catalog). NamedAs v.disk.shown t' (entries z) z.files) (sym c) k.named) in
     record {
       ready = sym h.ready ∙ k.ready;

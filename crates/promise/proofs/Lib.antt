@@ -15,3 +15,6 @@ pub mod Firsts
 pub mod StartTogether
 pub mod StartProper
 pub mod Holding
+pub mod Cards
+pub mod Stores
+pub mod Witnesses

@@ -7,3 +7,4 @@ pub mod Calls
 pub mod Together
 pub mod Laws
 pub mod Examples
+pub mod Witnesses

@@ -1,6 +1,7 @@
 //! What holds of the table, of the ledger, and of the two together, each stated by the contract of a function.
 
 ghost use Rattle.promise.specs.Laws.{StaysProper, Accounts, Refusals, StaysSane, RestartForgets, StayTogether, HoldsOne};
+ghost use Rattle.promise.specs.Witnesses.{Witnesses};
 
 /// Every call keeps the table proper, whatever it answers.
 pub fn proper_stands()
@@ -35,4 +36,9 @@ pub fn together_stand()
 /// A store holds one table, as far as anything of it can be seen.
 pub fn holds_stands()
     ensures { HoldsOne }
+{}
+
+/// What the calls promise can be kept: calls on a small store, each as it is promised.
+pub fn witnesses_stand()
+    ensures { Witnesses }
 {}

@@ -1,0 +1,102 @@
+-- A small card: its root page, a file in its sector 2, and the tables that stores on it hold.
+use Rattle.std.proofs.Common.{◌≡◌, ℕ, ◌+◌, ◌^◌, ◌<◌, ◌≤◌, ◌⊎◌, Bool, true, false, cond, List, [], ◌∷◌, length, take, sym, refl, ap, ◌∙◌, inl, inr, arith}
+use Rattle.std.specs.Prelude.{not, ◌&&◌, ◌==◌, nat_le, nat_lt, codes}
+use Rattle.std.proofs.lemmas.Bool.{and_parts, or_parts, cond_both, leb-true, ltb-true}
+use Rattle.numbers.specs.Names.{Key}
+use Rattle.numbers.specs.Sectors.{address}
+use Rattle.numbers.specs.Lengths.{sector_size, header_size, longest, last_sector, tables}
+use Rattle.layout.specs.Words.{blank}
+use Rattle.tree.specs.Tree.{Item, item, page}
+use Rattle.disk.specs.Meaning.{Contents, In}
+use Rattle.catalog.specs.Catalogs.{Catalog, Distinct, range, member, bytes_of}
+use Rattle.catalog.specs.Lays.{PageAt, FileAt, Lays}
+use Rattle.catalog.specs.Laws.{Sized}
+use Rattle.catalog.proofs.Written.{page-written, head-written}
+use Rattle.promise.specs.Examples.{hall}
+use Rattle.promise.specs.Witnesses.{sector_count, root_of, contents, in_second, hall_sector}
+
+-- LISTS of numbers, tested
+not-member : (n : ℕ) (l : List ℕ) → member n l ≡ false → In n l → ⊥
+not-member n [] h i = i
+not-member n (x ∷ l) h (inl e) = let p = or_parts (n == x) (member n l) h in absurd (grind (arith, p.0, e))
+not-member n (x ∷ l) h (inr i) = not-member n l (or_parts (n == x) (member n l) h).1 i
+
+abbrev pub all_apart : List ℕ → Bool
+all_apart [] = true
+all_apart (x ∷ l) = not (member x l) && all_apart l
+
+not-true : (b : Bool) → not b ≡ true → b ≡ false
+not-true true h = cc
+not-true false h = refl
+
+pub distinct : (l : List ℕ) → all_apart l ≡ true → Distinct l
+distinct [] h = tt
+distinct (x ∷ l) h = let p = and_parts (not (member x l)) (all_apart l) h in (λ i. not-member x l (not-true (member x l) p.0) i, distinct l p.1)
+
+-- between two bounds
+abbrev pub all_within : ℕ → ℕ → List ℕ → Bool
+all_within low high [] = true
+all_within low high (x ∷ l) = (nat_le low x && nat_lt x high) && all_within low high l
+
+pub within : (low high : ℕ) (l : List ℕ) → all_within low high l ≡ true → (n : ℕ) → In n l → (low ≤ n) × (n < high)
+within low high [] h n i = absurd i
+within low high (x ∷ l) h n (inr i) = within low high l (and_parts (nat_le low x && nat_lt x high) (all_within low high l) h).1 n i
+within low high (x ∷ l) h n (inl e) =
+    let p = and_parts (nat_le low x) (nat_lt x high) (and_parts (nat_le low x && nat_lt x high) (all_within low high l) h).0 in
+    let a = leb-true low x p.0 in
+    let b = ltb-true x high p.1 in
+    (omega arith, omega arith)
+
+-- PAGES AND FIRST SECTORS
+pub root-empty : PageAt 0 (root_of []) (page tt []) × (length (root_of []) ≡ sector_size)
+root-empty = page-written 0 (page tt []) (omega arith, omega arith, tt)
+
+abbrev pub hall_entry : List (Item Key (Unit {0}))
+hall_entry = item (hall, 2) tt ∷ []
+
+pub root-hall : PageAt 0 (root_of hall_entry) (page tt hall_entry) × (length (root_of hall_entry) ≡ sector_size)
+root-hall = page-written 0 (page tt hall_entry) (omega arith, omega arith, ((omega arith, omega arith, omega arith), tt))
+
+pub hall-laid : (shown : ℕ → Contents) (n : ℕ) (bs : List ℕ) → shown 2 ≡ hall_sector n bs → n ≤ longest → last_sector n ≡ 0 → FileAt shown 2 (in_second n)
+hall-laid shown n bs e l z = head-written shown 2 hall (in_second n)
+    (record { short = omega arith; fits = l; parts = ap (λ (a : ℕ). 1 + a) (sym z); tabs = ap tables (sym z); small = λ s i. small s i })
+    (record { first = refl; head = ap (take header_size) e ∙ refl; far = λ k j a b. absurd (omega arith) })
+  where
+    small : (s : ℕ) → In s (2 ∷ []) ⊎ In s [] → address s < 2 ^ 32
+    small s (inl (inl f)) = omega arith
+    small s (inl (inr i)) = absurd i
+    small s (inr i) = absurd i
+
+-- each sector is whole
+pub sized : (xs : List (Item Key (Unit {0}))) (second : Contents) → length (root_of xs) ≡ sector_size → length second ≡ sector_size → Sized sector_count (contents xs second)
+unfolding blank
+sized xs second h k s l = cond_both (s == 1) (root_of xs) (cond (s == 2) second blank) (λ (c : Contents). length c ≡ sector_size) (λ e. h) (λ e. cond_both (s == 2) second blank (λ (c : Contents). length c ≡ sector_size) (λ f. k) (λ f. refl))
+
+pub hall-long : length (hall_sector 5 (codes "first")) ≡ sector_size
+hall-long = refl
+
+pub hall-empty-long : length (hall_sector 0 []) ≡ sector_size
+hall-empty-long = refl
+
+pub hall-bytes : (shown : ℕ → Contents) → shown 2 ≡ hall_sector 5 (codes "first") → codes "first" ≡ bytes_of shown (in_second 5)
+unfolding bytes_of range
+hall-bytes shown e = rw e refl
+
+pub no-bytes : (shown : ℕ → Contents) → [] ≡ bytes_of shown (in_second 0)
+unfolding bytes_of range
+no-bytes shown = refl
+
+-- CATALOGS
+abbrev pub empty_catalog : Catalog
+empty_catalog = record { over = 0; root = (1, page tt []); files = [] }
+
+pub lays-empty : Lays sector_count (contents [] blank) empty_catalog
+lays-empty = record {
+  root = refl;
+  good = record { rises = tt; few = omega arith; filled = (omega arith, omega arith, tt, tt) };
+  names = tt;
+  pages = (root-empty.0, (tt, tt));
+  files = tt;
+  once = distinct (1 ∷ []) refl;
+  within = within 1 sector_count (1 ∷ []) refl;
+}

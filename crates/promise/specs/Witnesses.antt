@@ -1,0 +1,66 @@
+-- What the calls promise can be kept: a small store that is formatted, and calls on it, each as it is promised.
+use Rattle.std.specs.Prelude.{ℕ, ◌-◌, Bool, true, cond, List, [], ◌∷◌, ◌++◌, length, replicate, Some, None, Option, ◌==◌}
+use Rattle.numbers.specs.Lengths.{sector_size, header_size}
+use Rattle.layout.specs.Words.{blank}
+use Rattle.layout.specs.Headers.{header_bytes}
+use Rattle.layout.specs.Pages.{page_bytes}
+use Rattle.numbers.specs.Names.{Key}
+use Rattle.tree.specs.Tree.{Item, page}
+use Rattle.disk.specs.Meaning.{Contents, Meaning}
+use Rattle.catalog.specs.Catalogs.{Extent}
+use Rattle.catalog.specs.Written.{page_data, header_of}
+use Rattle.promise.specs.Table.{Sort, Anonymous, Call, New, Answer, Slotted, formatted}
+use Rattle.promise.specs.Ledger.{Ledger}
+use Rattle.promise.specs.Promise.{Open, View}
+use Rattle.promise.specs.Calls.{Holds, Did}
+use Rattle.promise.specs.Examples.{hall}
+
+-- THE DISK: eleven sectors with these contents, live and settled
+abbrev pub sector_count : ℕ
+sector_count = 11
+
+abbrev pub disk_of : Bool → (ℕ → Contents) → Meaning
+disk_of calm shown = record { size = sector_count; live = true; calm = calm; shown = shown; may = λ n. shown n ∷ [] }
+
+-- sector 1 is the root page, with these entries and no page below; sector 2 as given; the others are zeros
+abbrev pub root_of : List (Item Key (Unit {0})) → Contents
+root_of xs = page_bytes (page_data 0 (page tt xs))
+
+abbrev pub contents : List (Item Key (Unit {0})) → Contents → ℕ → Contents
+contents xs second n = cond (n == 1) (root_of xs) (cond (n == 2) second blank)
+
+-- a file of n bytes in sector 2, and that sector under the name Hall.IR, with these bytes
+abbrev pub in_second : ℕ → Extent
+in_second n = record { long = n; parts = 2 ∷ []; tabs = [] }
+
+abbrev pub hall_sector : ℕ → List ℕ → Contents
+hall_sector n bs = header_bytes (header_of hall (in_second n)) ++ (bs ++ replicate (sector_size - header_size - length bs) 0)
+
+-- THE STORE, ready, with these slots and free sectors
+abbrev pub none_open : List (Option Open)
+none_open = replicate 8 None
+
+abbrev pub hall_open : Sort → ℕ → List ℕ → List (Option Open)
+hall_open sort n bs = Some (record { slot = record { file = 2; sort = sort; name = hall; handles = 1 }; long = n; first = hall_sector n bs }) ∷ replicate 7 None
+
+abbrev pub free_after : List ℕ
+free_after = 3 ∷ 4 ∷ 5 ∷ 6 ∷ 7 ∷ 8 ∷ 9 ∷ 10 ∷ []
+
+abbrev pub store : List (Option Open) → List ℕ → Meaning → View
+store slots free disk = record { ready = true; slots = slots; free = free; disk = disk }
+
+-- just formatted; with Hall.IR in slot 0, of no bytes
+abbrev pub formatted_store : Bool → View
+formatted_store calm = store none_open (2 ∷ free_after) (disk_of calm (contents [] blank))
+
+abbrev pub new_store : Bool → View
+new_store calm = store (hall_open Anonymous 0 []) free_after (disk_of calm (contents [] blank))
+
+-- a call as it is promised, apart from what is kept towards the ledger: of every table that the store before it holds
+abbrev pub Does : View → Call → Answer → View → Type 0
+Does = Did (λ (l : Ledger) (v : View). Unit {0})
+
+pub record Witnesses : Type 0 where
+  -- on a calm disk or not: the store holds the empty table, and each call goes on from the store that the one before it left
+  pub holds : (calm : Bool) → Holds (formatted_store calm) (formatted sector_count)
+  pub new : (calm : Bool) → Does (formatted_store calm) (New hall) (Slotted 0) (new_store calm)
