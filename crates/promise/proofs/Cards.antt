@@ -1,19 +1,19 @@
 -- A small card: its root page, a file in its sector 2, and the tables that stores on it hold.
 use Rattle.std.proofs.Common.{◌≡◌, ℕ, ◌+◌, ◌^◌, ◌<◌, ◌≤◌, ◌⊎◌, Bool, true, false, cond, List, [], ◌∷◌, length, take, sym, refl, ap, ◌∙◌, inl, inr, arith}
-use Rattle.std.specs.Prelude.{not, ◌&&◌, ◌==◌, nat_le, nat_lt, codes}
+use Rattle.std.specs.Prelude.{not, ◌&&◌, ◌==◌, nat_le, nat_lt}
 use Rattle.std.proofs.lemmas.Bool.{and_parts, or_parts, cond_both, leb-true, ltb-true}
 use Rattle.numbers.specs.Names.{Key}
 use Rattle.numbers.specs.Sectors.{address}
 use Rattle.numbers.specs.Lengths.{sector_size, header_size, longest, last_sector, tables}
 use Rattle.layout.specs.Words.{blank}
-use Rattle.tree.specs.Tree.{Item, item, page}
+use Rattle.tree.specs.Tree.{Item, page}
 use Rattle.disk.specs.Meaning.{Contents, In}
 use Rattle.catalog.specs.Catalogs.{Catalog, Distinct, range, member, bytes_of}
 use Rattle.catalog.specs.Lays.{PageAt, FileAt, Lays}
 use Rattle.catalog.specs.Laws.{Sized}
 use Rattle.catalog.proofs.Written.{page-written, head-written}
 use Rattle.promise.specs.Examples.{hall}
-use Rattle.promise.specs.Witnesses.{sector_count, root_of, contents, in_second, hall_sector}
+use Rattle.promise.specs.Witnesses.{sector_count, root_of, contents, in_second, hall_sector, first_bytes, hall_entry}
 
 -- LISTS of numbers, tested
 not-member : (n : ℕ) (l : List ℕ) → member n l ≡ false → In n l → ⊥
@@ -51,9 +51,6 @@ within low high (x ∷ l) h n (inl e) =
 pub root-empty : PageAt 0 (root_of []) (page tt []) × (length (root_of []) ≡ sector_size)
 root-empty = page-written 0 (page tt []) (omega arith, omega arith, tt)
 
-abbrev pub hall_entry : List (Item Key (Unit {0}))
-hall_entry = item (hall, 2) tt ∷ []
-
 pub root-hall : PageAt 0 (root_of hall_entry) (page tt hall_entry) × (length (root_of hall_entry) ≡ sector_size)
 root-hall = page-written 0 (page tt hall_entry) (omega arith, omega arith, ((omega arith, omega arith, omega arith), tt))
 
@@ -72,13 +69,13 @@ pub sized : (xs : List (Item Key (Unit {0}))) (second : Contents) → length (ro
 unfolding blank
 sized xs second h k s l = cond_both (s == 1) (root_of xs) (cond (s == 2) second blank) (λ (c : Contents). length c ≡ sector_size) (λ e. h) (λ e. cond_both (s == 2) second blank (λ (c : Contents). length c ≡ sector_size) (λ f. k) (λ f. refl))
 
-pub hall-long : length (hall_sector 5 (codes "first")) ≡ sector_size
+pub hall-long : length (hall_sector 5 (first_bytes)) ≡ sector_size
 hall-long = refl
 
 pub hall-empty-long : length (hall_sector 0 []) ≡ sector_size
 hall-empty-long = refl
 
-pub hall-bytes : (shown : ℕ → Contents) → shown 2 ≡ hall_sector 5 (codes "first") → codes "first" ≡ bytes_of shown (in_second 5)
+pub hall-bytes : (shown : ℕ → Contents) → shown 2 ≡ hall_sector 5 (first_bytes) → first_bytes ≡ bytes_of shown (in_second 5)
 unfolding bytes_of range
 hall-bytes shown e = rw e refl
 
@@ -90,8 +87,8 @@ no-bytes shown = refl
 abbrev pub empty_catalog : Catalog
 empty_catalog = record { over = 0; root = (1, page tt []); files = [] }
 
-pub lays-empty : Lays sector_count (contents [] blank) empty_catalog
-lays-empty = record {
+pub lays-empty : (second : Contents) → Lays sector_count (contents [] second) empty_catalog
+lays-empty second = record {
   root = refl;
   good = record { rises = tt; few = omega arith; filled = (omega arith, omega arith, tt, tt) };
   names = tt;
@@ -99,4 +96,18 @@ lays-empty = record {
   files = tt;
   once = distinct (1 ∷ []) refl;
   within = within 1 sector_count (1 ∷ []) refl;
+}
+
+abbrev pub hall_catalog : Catalog
+hall_catalog = record { over = 0; root = (1, page tt hall_entry); files = in_second 5 ∷ [] }
+
+pub lays-hall : Lays sector_count (contents hall_entry (hall_sector 5 first_bytes)) hall_catalog
+lays-hall = record {
+  root = refl;
+  good = record { rises = (tt, tt); few = omega arith; filled = (omega arith, omega arith, tt, (tt, tt)) };
+  names = (refl, tt);
+  pages = (root-hall.0, (tt, (tt, tt)));
+  files = (hall-laid (contents hall_entry (hall_sector 5 first_bytes)) 5 first_bytes refl (omega arith) refl, tt);
+  once = distinct (1 ∷ 2 ∷ []) refl;
+  within = within 1 sector_count (1 ∷ 2 ∷ []) refl;
 }

@@ -1,19 +1,24 @@
 -- Calls on the small store, each as it is promised.
-use Rattle.std.proofs.Common.{◌≡◌, ℕ, Bool, true, false, ◌⊎◌, List, [], ◌∷◌, Option, sym, refl, ◌∙◌, subst, ap₂, inl, inr}
+use Rattle.std.proofs.Common.{◌≡◌, ℕ, zero, suc, Bool, true, false, ◌⊎◌, List, [], ◌∷◌, length, get_or, replicate, Some, None, Option, sym, refl, ap, ◌∙◌, subst, ap₂, inl, inr, arith}
+use Rattle.std.specs.Prelude.{cond, ◌==◌, ◌≢◌}
+use Rattle.std.proofs.lemmas.Option.{none-some, same_Some}
 use Rattle.numbers.specs.Names.{Key}
 use Rattle.layout.specs.Words.{blank}
-use Rattle.disk.specs.Meaning.{Meaning, In}
+use Rattle.disk.specs.Meaning.{Contents, Meaning, In}
+use Rattle.catalog.specs.Catalogs.{Catalog, entries, page_sectors, outside}
 use Rattle.catalog.specs.Laws.{Sized}
-use Rattle.promise.specs.Table.{File, Anonymous, Table, Call, New, Answer, Done, Slotted, plain, formatted, Spare, Turn, said}
+use Rattle.promise.specs.declared.fault.FileFault.{FileFault}
+use Rattle.promise.specs.declared.fault.FileFault.TheVariants.{NoRoom}
+use Rattle.promise.specs.Table.{File, Sort, Anonymous, Registered, Slot, Table, Call, New, Old, Delete, Write, Register, Close, Answer, Done, Slotted, Wrote, No, slot_at, changes, plain, formatted, Spare, Turn, said, Proper}
 use Rattle.promise.specs.Promise.{Open, View}
-use Rattle.promise.specs.Calls.{uses, says_three, file_at, Holds, Turned}
-use Rattle.promise.specs.Examples.{hall}
-use Rattle.promise.specs.Witnesses.{sector_count, disk_of, contents, none_open, hall_open, free_after, store, formatted_store, new_store, Witnesses}
+use Rattle.promise.specs.Calls.{seen, NamedAs, OpenAs, uses, says_three, closes, file_at, Unput, Head, DirectoryPut, Holds, Turned}
+use Rattle.promise.specs.Examples.{at, hall}
+use Rattle.promise.specs.Witnesses.{sector_count, disk_of, contents, in_second, hall_sector, first_bytes, hall_entry, none_open, hall_open, free_after, store, formatted_store, new_store, written_store, registered_store, closed_store, deleted_store, Does, Witnesses}
 use Rattle.promise.proofs.Slots.{no-slot}
-use Rattle.promise.proofs.StayProper.{turns}
+use Rattle.promise.proofs.StayProper.{turns, formatted-proper}
 use Rattle.promise.proofs.Holding.{catalog-one, extents-one, holds-one}
-use Rattle.promise.proofs.Cards.{root-empty, sized}
-use Rattle.promise.proofs.Stores.{formatted-holds, new-holds}
+use Rattle.promise.proofs.Cards.{root-empty, root-hall, hall-long, hall-laid, hall-bytes, no-bytes, sized}
+use Rattle.promise.proofs.Stores.{formatted-holds, new-holds, written-holds, registered-holds, closed-holds, deleted-holds}
 
 -- TABLES that a store holds: like one of them, but for the files
 abbrev over : Table → (ℕ → File) → Table
@@ -22,14 +27,29 @@ over t f = record { ready = t.ready; tree = t.tree; files = f; slots = t.slots; 
 same-table : (t u : Table) → t.ready ≡ u.ready → t.tree ≡ u.tree → t.slots ≡ u.slots → t.free ≡ u.free → t ≡ over u t.files
 same-table t u a b c d = rw (← a, ← b, ← c, ← d) refl
 
-every-table : (v : View) (u : Table) → Sized v.disk.size v.disk.shown → Holds v u → (P : (t : Table) → Holds v t → Type 0) → ((f : ℕ → File) (h : Holds v (over u f)) → P (over u f) h) →
-    (t : Table) (h : Holds v t) → P t h
-every-table v u z k P g t h =
-    let a = holds-one v t u z h k in
-    subst (λ (t : Table). (h : Holds v t) → P t h) (sym (same-table t u a.ready a.tree a.slots a.free)) (g t.files) h
+does : (v v' : View) (u : Table) (c : Call) (a : Answer) → Sized v.disk.size v.disk.shown → Holds v u → v.ready ≡ true → v'.disk.size ≡ v.disk.size →
+    ((f : ℕ → File) (h : Holds v (over u f)) → Turned v (over u f) h c a v') → Does v c a v'
+does v v' u c a z k r s g = record {
+  waits = λ e. absurd (differ (sym e ∙ r));
+  turns = λ _ t h. (let q = holds-one v t u z h k in subst (λ (t : Table). (h : Holds v t) → Turned v t h c a v') (sym (same-table t u q.ready q.tree q.slots q.free)) (g t.files) h);
+  size = s;
+  keeps = λ l k. tt;
+}
+  where
+    differ : false ≡ true → ⊥
+    differ e = cc
 
-uses-one : (v : View) (t u w : Table) (z : Sized v.disk.size v.disk.shown) (h : Holds v t) (k : Holds v u) → uses w h.catalog h.extents ≡ uses w k.catalog k.extents
-uses-one v t u w z h k = ap₂ (uses w) (catalog-one v t u z h k) (extents-one v t u z h k)
+-- the sectors in use, and what relates the directories before and after, of one table that each store holds
+module _ (v v' : View) (t u t' u' : Table) (z : Sized v.disk.size v.disk.shown) (z' : Sized v'.disk.size v'.disk.shown) (h : Holds v t) (k : Holds v u) (k' : Holds v' u') where
+  took-by : ((s : ℕ) → In s (uses t' k'.catalog k'.extents) → In s v.free ⊎ In s (uses t k.catalog k.extents)) →
+      (h' : Holds v' t') (s : ℕ) → In s (uses t' h'.catalog h'.extents) → In s v.free ⊎ In s (uses t h.catalog h.extents)
+  took-by g h' s i =
+      let e = ap₂ (uses t) (catalog-one v t u z h k) (extents-one v t u z h k) in
+      let e' = ap₂ (uses t') (catalog-one v' t' u' z' h' k') (extents-one v' t' u' z' h' k') in
+      subst (λ (l : List ℕ). In s v.free ⊎ In s l) (sym e) (g s (subst (In s) e' i))
+
+  directory-by : (P : Catalog → Catalog → Type 0) → P k.catalog k'.catalog → (h' : Holds v' t') → P h.catalog h'.catalog
+  directory-by P p h' = subst (λ (c : Catalog). P c h'.catalog) (sym (catalog-one v t u z h k)) (subst (P k.catalog) (sym (catalog-one v' t' u' z' h' k')) p)
 
 -- CALLS that put nothing, on a store with this disk
 module _ (m : Meaning) (slots slots' : List (Option Open)) (free free' : List ℕ) (t : Table) (h : Holds (store slots free m) t) where
@@ -57,41 +77,261 @@ module _ (m : Meaning) (slots slots' : List (Option Open)) (free free' : List �
       differ : false ≡ true → ⊥
       differ e = cc
 
-sized-empty : Sized sector_count (contents [] blank)
+-- CALLS that put and settle, and take no sector
+module _ (calm : Bool) (shown shown' : ℕ → Contents) (slots slots' : List (Option Open)) (free : List ℕ) (t : Table) (h : Holds (store slots free (disk_of calm shown)) t) where
+  puts : (c : Call) (t' : Table) → Turn t c Done t' → t'.ready ≡ true → Holds (store slots' free (disk_of calm shown')) t' →
+      ((k : Holds (store slots' free (disk_of calm shown')) t') (s : ℕ) → In s (uses t' k.catalog k.extents) → In s free ⊎ In s (uses t h.catalog h.extents)) →
+      ((s : ℕ) (o : Open) → closes c ≡ Some s → get_or slots s None ≡ Some o → Head o (t'.files o.slot.file) shown') →
+      ((s : ℕ) (o : Open) → closes c ≢ Some s → (get_or slots s None ≡ Some o) ⊎ (get_or slots' s None ≡ Some o) → Unput (store slots free (disk_of calm shown)) (store slots' free (disk_of calm shown')) o.slot.file) →
+      ((k : Holds (store slots' free (disk_of calm shown')) t') → (length (outside (page_sectors h.catalog) (page_sectors k.catalog)) ≡ changes t t'.tree) × DirectoryPut h.catalog shown shown' k.catalog) →
+      Turned (store slots free (disk_of calm shown)) t h c Done (store slots' free (disk_of calm shown'))
+  puts c t' u r k took head others directory = record {
+    table = t';
+    turn = u;
+    ready = sym r;
+    holds = λ _. k;
+    new = λ n s e f. absurd (not-slotted s f);
+    took = took;
+    freed = λ _ s i. inl i;
+    answered = record { lost = (λ e. absurd (differ e), λ e. absurd (differ (sym e))); accepts = λ _ _. refl; calm = λ e. e; size = refl };
+    unput = λ f e b. absurd (not-no f e);
+    settled = λ _ k x l i. only k x i;
+    head = λ s o e f _. head s o e f;
+    others = others;
+    moved = λ _ k. (directory k).0;
+    pages = λ _ k. (directory k).1;
+  }
+    where
+      differ : false ≡ true → ⊥
+      differ e = cc
+
+      not-slotted : (s : ℕ) → Done ≡ Slotted s → ⊥
+      not-slotted s e = cc
+
+      not-no : (f : FileFault) → Done ≡ No f → ⊥
+      not-no f e = cc
+
+      only : (k : ℕ) (x : Contents) → In x (shown' k ∷ []) → x ≡ shown' k
+      only k x (inl e) = e
+      only k x (inr i) = absurd i
+
+sized-empty : (second : Contents) → length second ≡ 1024 → Sized sector_count (contents [] second)
+sized-empty second l = sized [] second root-empty.1 l
+
+blank-long : length blank ≡ 1024
 unfolding blank
-sized-empty = sized [] blank root-empty.1 refl
+blank-long = refl
 
--- NEW
-new-turns : (calm : Bool) (f : ℕ → File) (h : Holds (formatted_store calm) (over (formatted sector_count) f)) →
-    Turned (formatted_store calm) (over (formatted sector_count) f) h (New hall) (Slotted 0) (new_store calm)
-unfolding formatted-holds new-holds
-new-turns calm f h =
-    let t = over (formatted sector_count) f in
-    let t' = (plain t 2 (New hall)).1 in
-    let u : Turn t (New hall) (Slotted 0) t' = said (New hall) 2 spare in
-    let k : Holds (new_store calm) t' = new-holds calm t'.files refl (turns t t' (New hall) (Slotted 0) h.proper u) in
-    quiet (disk_of calm (contents [] blank)) none_open (hall_open Anonymous 0 []) (2 ∷ free_after) free_after t h (New hall) (Slotted 0) t' u refl k refl refl (λ e. cc)
-    (λ n s e g. subst (λ (z : ℕ). In (file_at (new_store calm) z) (2 ∷ free_after)) (slotted 0 s g) (inl refl))
-    (λ j s i. took s (subst (In s) (uses-one (new_store calm) t' t' t' sized-empty j k) i)) (λ s i. inr i)
-  where
-    spare : Spare (over (formatted sector_count) f) 2
-    spare = record { closed = λ s x e. absurd (no-slot s x e); unnamed = λ e i. absurd i }
+-- SLOTS: only slot 0 may be used
+none-later : {A : Type 0} (n k : ℕ) (o : A) → get_or (replicate n None) k None ≡ Some o → ⊥
+none-later zero k o e = none-some o e
+none-later (suc n) zero o e = none-some o e
+none-later (suc n) (suc k) o e = none-later n k o e
 
-    slotted : (s n : ℕ) → Slotted s ≡ Slotted n → s ≡ n
-    slotted s n e = cc
+first-only : {A : Type 0} (x : Option A) (s : ℕ) (o : A) → Some 0 ≢ Some s → get_or (x ∷ replicate 7 None) s None ≡ Some o → ⊥
+first-only x zero o n e = n refl
+first-only x (suc s) o n e = none-later 7 s o e
 
-    took : (s : ℕ) → In s (1 ∷ 2 ∷ []) → In s (2 ∷ free_after) ⊎ In s (uses (over (formatted sector_count) f) h.catalog h.extents)
-    took s (inl e) = inr (subst (In s) (sym (uses-one (formatted_store calm) (over (formatted sector_count) f) (formatted sector_count) (formatted sector_count) sized-empty h (formatted-holds calm))) (inl e))
-    took s (inr (inl e)) = inl (inl e)
-    took s (inr (inr i)) = absurd i
+slotted : (s n : ℕ) → Slotted s ≡ Slotted n → s ≡ n
+slotted s n e = cc
 
-pub witnesses : Witnesses
-witnesses = record {
-  holds = formatted-holds;
-  new = λ calm. record {
-    waits = λ e. cc;
-    turns = λ _. every-table (formatted_store calm) (formatted sector_count) sized-empty (formatted-holds calm) (λ t h. Turned (formatted_store calm) t h (New hall) (Slotted 0) (new_store calm)) (new-turns calm);
-    size = refl;
-    keeps = λ l k. tt;
-  };
+-- the open file that slot 0 holds is closed on the disk
+hall-head : (sort : Sort) (g : ℕ → File) → (g 2).bytes ≡ first_bytes → (s : ℕ) (o : Open) → Some 0 ≡ Some s → get_or (hall_open sort 5 first_bytes) s None ≡ Some o →
+    Head o (g o.slot.file) (contents hall_entry (hall_sector 5 first_bytes))
+hall-head sort g b s o e f =
+    let shown = contents hall_entry (hall_sector 5 first_bytes) in
+    let x : Open = record { slot = record { file = 2; sort = sort; name = hall; handles = 1 }; long = 5; first = hall_sector 5 first_bytes } in
+    let q : x ≡ o = same_Some x o (subst (λ (n : ℕ). get_or (hall_open sort 5 first_bytes) n None ≡ Some o) (sym (same_Some 0 s e)) f) in
+    subst (λ (y : Open). Head y (g y.slot.file) shown) q (record {
+      extent = in_second 5;
+      long = refl;
+      header = refl;
+      reaches = (hall-laid shown 5 first_bytes refl (omega arith) refl).reaches;
+      bytes = sym (b ∙ hall-bytes shown refl);
+    })
+
+-- TABLES of the stores, one after another
+spare-new : (f : ℕ → File) → Spare (over (formatted sector_count) f) 2
+spare-new f = record { closed = λ s x e. absurd (no-slot s x e); unnamed = λ e i. absurd i }
+
+abbrev formatted_table : Table
+formatted_table = formatted sector_count
+
+abbrev new_table : Table
+new_table = (plain formatted_table 2 (New hall)).1
+
+abbrev written_table : Table
+written_table = (plain new_table 0 (Write (at 0 0) first_bytes)).1
+
+abbrev registered_table : Table
+registered_table = (plain written_table 0 (Register 0)).1
+
+abbrev closed_table : Table
+closed_table = (plain registered_table 0 (Close 0)).1
+
+new-proper : Proper new_table
+new-proper = turns formatted_table new_table (New hall) (Slotted 0) (formatted-proper sector_count refl) (said (New hall) 2 (spare-new formatted_table.files))
+
+written-proper : Proper written_table
+written-proper = turns new_table written_table (Write (at 0 0) first_bytes) (Wrote 5 (at 0 5)) new-proper (said (Write (at 0 0) first_bytes) 0 refl)
+
+registered-proper : Proper registered_table
+registered-proper = turns written_table registered_table (Register 0) Done written-proper (said (Register 0) 0 refl)
+
+closed-proper : Proper closed_table
+closed-proper = turns registered_table closed_table (Close 0) Done registered-proper (said (Close 0) 0 refl)
+
+-- the bytes of an open file
+open-as : (v : View) (t u : Table) → Sized v.disk.size v.disk.shown → (h : Holds v t) (k : Holds v u) → OpenAs (seen v) t v.slots k.extents
+open-as v t u z h k = subst (OpenAs (seen v) t v.slots) (extents-one v t u z h k) h.open'
+
+named-as : (v : View) (t u : Table) → Sized v.disk.size v.disk.shown → (h : Holds v t) (k : Holds v u) → NamedAs v.disk.shown t (entries k.catalog) k.catalog.files
+named-as v t u z h k = subst (λ (c : Catalog). NamedAs v.disk.shown t (entries c) c.files) (catalog-one v t u z h k) h.named
+
+z₀ : Sized sector_count (contents [] blank)
+z₀ = sized-empty blank blank-long
+
+z₁ : Sized sector_count (contents hall_entry (hall_sector 5 first_bytes))
+z₁ = sized hall_entry (hall_sector 5 first_bytes) root-hall.1 hall-long
+
+module _ (calm : Bool) (f : ℕ → File) where
+  -- NEW
+  new-turns : (h : Holds (formatted_store calm) (over formatted_table f)) → Turned (formatted_store calm) (over formatted_table f) h (New hall) (Slotted 0) (new_store calm)
+  unfolding formatted-holds new-holds
+  new-turns h =
+      let t = over formatted_table f in
+      let t' = (plain t 2 (New hall)).1 in
+      let u : Turn t (New hall) (Slotted 0) t' = said (New hall) 2 (spare-new f) in
+      let k = new-holds calm t'.files refl (turns t t' (New hall) (Slotted 0) h.proper u) in
+      quiet (disk_of calm (contents [] blank)) none_open (hall_open Anonymous 0 []) (2 ∷ free_after) free_after t h (New hall) (Slotted 0) t' u refl k refl refl (λ e. cc)
+      (λ n s e g. subst (λ (z : ℕ). In (file_at (new_store calm) z) (2 ∷ free_after)) (slotted 0 s g) (inl refl))
+      (took-by (formatted_store calm) (new_store calm) t formatted_table t' t' z₀ z₀ h (formatted-holds calm) k took) (λ s i. inr i)
+    where
+      took : (s : ℕ) → In s (1 ∷ 2 ∷ []) → In s (2 ∷ free_after) ⊎ In s (1 ∷ [])
+      took s (inl e) = inr (inl e)
+      took s (inr (inl e)) = inl (inl e)
+      took s (inr (inr i)) = absurd i
+
+  -- a New that would leave too few sectors
+  refused-turns : (h : Holds (new_store calm) (over new_table f)) → Turned (new_store calm) (over new_table f) h (New []) (No NoRoom) (new_store calm)
+  refused-turns h =
+      let t = over new_table f in
+      quiet (disk_of calm (contents [] blank)) (hall_open Anonymous 0 []) (hall_open Anonymous 0 []) free_after free_after t h (New []) (No NoRoom) t (said (New []) 3 spare) refl h refl refl (λ e. cc)
+      (λ n s e g. absurd (no-slotted s g)) (took-by (new_store calm) (new_store calm) t t t t z₀ z₀ h h h (λ s i. inr i)) (λ s i. i)
+    where
+      no-slotted : (s : ℕ) → No NoRoom ≡ Slotted s → ⊥
+      no-slotted s e = cc
+
+      spare : Spare (over new_table f) 3
+      spare = record { closed = λ s x e. apart s x e; unnamed = λ e i. absurd i }
+        where
+          apart : (s : ℕ) (x : Slot) → slot_at (over new_table f) s ≡ Some x → x.file ≢ 3
+          apart zero x e q = let p = same_Some (record { file = 2; sort = Anonymous; name = hall; handles = 1 }) x e in let r = ap (λ (y : Slot). y.file) p in absurd (omega (arith, r, q))
+          apart (suc s) x e q = none-later 7 s x e
+
+  -- WRITE
+  write-said : (f 2).bytes ≡ [] → plain (over new_table f) 0 (Write (at 0 0) first_bytes) ≡
+      (Wrote 5 (at 0 5), over written_table (λ (m : ℕ). cond (m == 2) (record { bytes = first_bytes; closed = (f 2).closed }) (f m)))
+  write-said e = rw e refl
+
+  write-turns : (h : Holds (new_store calm) (over new_table f)) → Turned (new_store calm) (over new_table f) h (Write (at 0 0) first_bytes) (Wrote 5 (at 0 5)) (written_store calm)
+  unfolding new-holds written-holds
+  write-turns h =
+      let t = over new_table f in
+      let c = Write (at 0 0) first_bytes in
+      let k₀ = new-holds calm new_table.files refl new-proper in
+      let t' = over written_table (λ (m : ℕ). cond (m == 2) (record { bytes = first_bytes; closed = (f 2).closed }) (f m)) in
+      let b : (f 2).bytes ≡ [] = (open-as (new_store calm) t new_table z₀ h k₀).2 ∙ sym (no-bytes (seen (new_store calm))) in
+      let u : Turn t c (Wrote 5 (at 0 5)) t' = subst (λ (r : Answer × Table). Turn t c r.0 r.1) (write-said b) (said c 0 refl) in
+      let k = written-holds calm t'.files refl (turns t t' c (Wrote 5 (at 0 5)) h.proper u) in
+      quiet (disk_of calm (contents [] blank)) (hall_open Anonymous 0 []) (hall_open Anonymous 5 first_bytes) free_after free_after t h c (Wrote 5 (at 0 5)) t' u refl k refl refl (λ e. cc)
+      (λ n s e g. absurd (not-slotted s g)) (took-by (new_store calm) (written_store calm) t new_table t' t' z₀ z₀ h k₀ k (λ s i. inr i)) (λ s i. i)
+    where
+      not-slotted : (s : ℕ) → Wrote 5 (at 0 5) ≡ Slotted s → ⊥
+      not-slotted s e = cc
+
+  -- REGISTER
+  register-turns : (h : Holds (written_store calm) (over written_table f)) → Turned (written_store calm) (over written_table f) h (Register 0) Done (registered_store calm)
+  unfolding written-holds registered-holds
+  register-turns h =
+      let t = over written_table f in
+      let t' = (plain t 0 (Register 0)).1 in
+      let k₀ = written-holds calm written_table.files refl written-proper in
+      let b : (f 2).bytes ≡ first_bytes = (open-as (written_store calm) t written_table z₀ h k₀).2 ∙ sym (hall-bytes (seen (written_store calm)) refl) in
+      let u : Turn t (Register 0) Done t' = said (Register 0) 0 refl in
+      let k = registered-holds calm t'.files (ap length b) b (turns t t' (Register 0) Done h.proper u) in
+      puts calm (contents [] blank) (contents hall_entry (hall_sector 5 first_bytes)) (hall_open Anonymous 5 first_bytes) (hall_open Registered 5 first_bytes) free_after t h (Register 0) t' u refl k
+      (took-by (written_store calm) (registered_store calm) t written_table t' t' z₀ z₁ h k₀ k (λ s i. inr i))
+      (hall-head Anonymous t'.files b)
+      (λ s o n e. absurd (elim e [ inl a ↦ first-only _ s o n a | inr a ↦ first-only _ s o n a ]))
+      (directory-by (written_store calm) (registered_store calm) t written_table t' t' z₀ z₁ h k₀ k
+      (λ c d. (length (outside (page_sectors c) (page_sectors d)) ≡ changes t t'.tree) × DirectoryPut c (contents [] blank) (contents hall_entry (hall_sector 5 first_bytes)) d) (refl, (inr refl, (tt, (tt, tt)))))
+
+  -- CLOSE
+  close-turns : (h : Holds (registered_store calm) (over registered_table f)) → Turned (registered_store calm) (over registered_table f) h (Close 0) Done (closed_store calm)
+  unfolding registered-holds closed-holds
+  close-turns h =
+      let t = over registered_table f in
+      let t' = (plain t 0 (Close 0)).1 in
+      let k₀ = registered-holds calm registered_table.files refl refl registered-proper in
+      let b : (f 2).bytes ≡ first_bytes = (open-as (registered_store calm) t registered_table z₁ h k₀).2 ∙ sym (hall-bytes (seen (registered_store calm)) refl) in
+      let u : Turn t (Close 0) Done t' = said (Close 0) 0 refl in
+      let k = closed-holds calm t'.files (ap length b) b (turns t t' (Close 0) Done h.proper u) in
+      let shown = contents hall_entry (hall_sector 5 first_bytes) in
+      puts calm shown shown (hall_open Registered 5 first_bytes) none_open free_after t h (Close 0) t' u refl k
+      (took-by (registered_store calm) (closed_store calm) t registered_table t' t' z₁ z₁ h k₀ k (λ s i. inr i))
+      (hall-head Registered t'.files b)
+      (λ s o n e. (refl, λ x i. i))
+      (directory-by (registered_store calm) (closed_store calm) t registered_table t' t' z₁ z₁ h k₀ k
+      (λ c d. (length (outside (page_sectors c) (page_sectors d)) ≡ changes t t'.tree) × DirectoryPut c shown shown d) (refl, (inl refl, (tt, (tt, tt)))))
+
+  -- OLD
+  old-turns : (h : Holds (closed_store calm) (over closed_table f)) → Turned (closed_store calm) (over closed_table f) h (Old hall) (Slotted 0) (registered_store calm)
+  unfolding registered-holds closed-holds
+  old-turns h =
+      let t = over closed_table f in
+      let t' = (plain t 0 (Old hall)).1 in
+      let k₀ = closed-holds calm closed_table.files refl refl closed-proper in
+      let shown = contents hall_entry (hall_sector 5 first_bytes) in
+      let n = named-as (closed_store calm) t closed_table z₁ h k₀ in
+      let u : Turn t (Old hall) (Slotted 0) t' = said (Old hall) 0 refl in
+      let k = registered-holds calm t'.files n.0 (n.1 refl ∙ sym (hall-bytes shown refl)) (turns t t' (Old hall) (Slotted 0) h.proper u) in
+      quiet (disk_of calm shown) none_open (hall_open Registered 5 first_bytes) free_after free_after t h (Old hall) (Slotted 0) t' u refl k refl refl (λ e. cc)
+      (λ n s e g. absurd (not-new n e)) (took-by (closed_store calm) (registered_store calm) t closed_table t' t' z₁ z₁ h k₀ k (λ s i. inr i)) (λ s i. i)
+    where
+      not-new : (n : Key) → Old hall ≡ New n → ⊥
+      not-new n e = cc
+
+  -- DELETE
+  delete-turns : (h : Holds (closed_store calm) (over closed_table f)) → Turned (closed_store calm) (over closed_table f) h (Delete hall) Done (deleted_store calm)
+  unfolding closed-holds deleted-holds
+  delete-turns h =
+      let t = over closed_table f in
+      let t' = (plain t 0 (Delete hall)).1 in
+      let k₀ = closed-holds calm closed_table.files refl refl closed-proper in
+      let shown = contents hall_entry (hall_sector 5 first_bytes) in
+      let shown' = contents [] (hall_sector 5 first_bytes) in
+      let u : Turn t (Delete hall) Done t' = said (Delete hall) 0 refl in
+      let k = deleted-holds calm t'.files (turns t t' (Delete hall) Done h.proper u) in
+      puts calm shown shown' none_open none_open free_after t h (Delete hall) t' u refl k
+      (took-by (closed_store calm) (deleted_store calm) t closed_table t' t' z₁ (sized-empty (hall_sector 5 first_bytes) hall-long) h k₀ k (λ s i. inr (first s i)))
+      (λ s o e. absurd (none-some s e))
+      (λ s o n e. absurd (elim e [ inl a ↦ none-later 8 s o a | inr a ↦ none-later 8 s o a ]))
+      (directory-by (closed_store calm) (deleted_store calm) t closed_table t' t' z₁ (sized-empty (hall_sector 5 first_bytes) hall-long) h k₀ k
+      (λ c d. (length (outside (page_sectors c) (page_sectors d)) ≡ changes t t'.tree) × DirectoryPut c shown shown' d) (refl, (inr refl, (tt, tt))))
+    where
+      first : (s : ℕ) → In s (1 ∷ []) → In s (1 ∷ 2 ∷ [])
+      first s (inl e) = inl e
+      first s (inr i) = absurd i
+
+pub witnesses : (calm : Bool) → Witnesses calm
+witnesses calm = record {
+  holds = formatted-holds calm;
+  new = does (formatted_store calm) (new_store calm) formatted_table (New hall) (Slotted 0) z₀ (formatted-holds calm) refl refl (new-turns calm);
+  write = does (new_store calm) (written_store calm) new_table (Write (at 0 0) first_bytes) (Wrote 5 (at 0 5)) z₀ (new-holds calm new_table.files refl new-proper) refl refl (write-turns calm);
+  register = does (written_store calm) (registered_store calm) written_table (Register 0) Done z₀ (written-holds calm written_table.files refl written-proper) refl refl (register-turns calm);
+  close = does (registered_store calm) (closed_store calm) registered_table (Close 0) Done z₁ (registered-holds calm registered_table.files refl refl registered-proper) refl refl (close-turns calm);
+  old = does (closed_store calm) (registered_store calm) closed_table (Old hall) (Slotted 0) z₁ (closed-holds calm closed_table.files refl refl closed-proper) refl refl (old-turns calm);
+  delete = does (closed_store calm) (deleted_store calm) closed_table (Delete hall) Done z₁ (closed-holds calm closed_table.files refl refl closed-proper) refl refl (delete-turns calm);
+  refused = does (new_store calm) (new_store calm) new_table (New []) (No NoRoom) z₀ (new-holds calm new_table.files refl new-proper) refl refl (refused-turns calm);
 }

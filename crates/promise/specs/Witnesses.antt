@@ -1,19 +1,20 @@
 -- What the calls promise can be kept: a small store that is formatted, and calls on it, each as it is promised.
-use Rattle.std.specs.Prelude.{ℕ, ◌-◌, Bool, true, cond, List, [], ◌∷◌, ◌++◌, length, replicate, Some, None, Option, ◌==◌}
+use Rattle.std.specs.Prelude.{ℕ, ◌-◌, Bool, true, cond, List, [], ◌∷◌, ◌++◌, length, replicate, Some, None, codes, Option, ◌==◌}
 use Rattle.numbers.specs.Lengths.{sector_size, header_size}
+use Rattle.numbers.specs.Names.{Key}
 use Rattle.layout.specs.Words.{blank}
 use Rattle.layout.specs.Headers.{header_bytes}
 use Rattle.layout.specs.Pages.{page_bytes}
-use Rattle.numbers.specs.Names.{Key}
-use Rattle.tree.specs.Tree.{Item, page}
+use Rattle.tree.specs.Tree.{Item, item, page}
 use Rattle.disk.specs.Meaning.{Contents, Meaning}
 use Rattle.catalog.specs.Catalogs.{Extent}
 use Rattle.catalog.specs.Written.{page_data, header_of}
-use Rattle.promise.specs.Table.{Sort, Anonymous, Call, New, Answer, Slotted, formatted}
+use Rattle.promise.specs.declared.fault.FileFault.TheVariants.{NoRoom}
+use Rattle.promise.specs.Table.{Sort, Anonymous, Registered, Call, New, Old, Delete, Write, Register, Close, Answer, Done, Slotted, Wrote, No, formatted}
 use Rattle.promise.specs.Ledger.{Ledger}
 use Rattle.promise.specs.Promise.{Open, View}
 use Rattle.promise.specs.Calls.{Holds, Did}
-use Rattle.promise.specs.Examples.{hall}
+use Rattle.promise.specs.Examples.{at, hall}
 
 -- THE DISK: eleven sectors with these contents, live and settled
 abbrev pub sector_count : ℕ
@@ -36,6 +37,13 @@ in_second n = record { long = n; parts = 2 ∷ []; tabs = [] }
 abbrev pub hall_sector : ℕ → List ℕ → Contents
 hall_sector n bs = header_bytes (header_of hall (in_second n)) ++ (bs ++ replicate (sector_size - header_size - length bs) 0)
 
+-- the bytes written to it, and the root's entry that leads to it
+abbrev pub first_bytes : List ℕ
+first_bytes = codes "first"
+
+abbrev pub hall_entry : List (Item Key (Unit {0}))
+hall_entry = item (hall, 2) tt ∷ []
+
 -- THE STORE, ready, with these slots and free sectors
 abbrev pub none_open : List (Option Open)
 none_open = replicate 8 None
@@ -49,18 +57,37 @@ free_after = 3 ∷ 4 ∷ 5 ∷ 6 ∷ 7 ∷ 8 ∷ 9 ∷ 10 ∷ []
 abbrev pub store : List (Option Open) → List ℕ → Meaning → View
 store slots free disk = record { ready = true; slots = slots; free = free; disk = disk }
 
--- just formatted; with Hall.IR in slot 0, of no bytes
+-- just formatted; with Hall.IR in slot 0, of no bytes; with five bytes; registered; closed; deleted
 abbrev pub formatted_store : Bool → View
 formatted_store calm = store none_open (2 ∷ free_after) (disk_of calm (contents [] blank))
 
 abbrev pub new_store : Bool → View
 new_store calm = store (hall_open Anonymous 0 []) free_after (disk_of calm (contents [] blank))
 
+abbrev pub written_store : Bool → View
+written_store calm = store (hall_open Anonymous 5 first_bytes) free_after (disk_of calm (contents [] blank))
+
+abbrev pub registered_store : Bool → View
+registered_store calm = store (hall_open Registered 5 first_bytes) free_after (disk_of calm (contents hall_entry (hall_sector 5 first_bytes)))
+
+abbrev pub closed_store : Bool → View
+closed_store calm = store none_open free_after (disk_of calm (contents hall_entry (hall_sector 5 first_bytes)))
+
+abbrev pub deleted_store : Bool → View
+deleted_store calm = store none_open free_after (disk_of calm (contents [] (hall_sector 5 first_bytes)))
+
 -- a call as it is promised, apart from what is kept towards the ledger: of every table that the store before it holds
 abbrev pub Does : View → Call → Answer → View → Type 0
 Does = Did (λ (l : Ledger) (v : View). Unit {0})
 
-pub record Witnesses : Type 0 where
-  -- on a calm disk or not: the store holds the empty table, and each call goes on from the store that the one before it left
-  pub holds : (calm : Bool) → Holds (formatted_store calm) (formatted sector_count)
-  pub new : (calm : Bool) → Does (formatted_store calm) (New hall) (Slotted 0) (new_store calm)
+-- on a calm disk or not: the first store holds the empty table, and each call goes on from a store that another one left
+pub record Witnesses (calm : Bool) : Type 0 where
+  pub holds : Holds (formatted_store calm) (formatted sector_count)
+  pub new : Does (formatted_store calm) (New hall) (Slotted 0) (new_store calm)
+  pub write : Does (new_store calm) (Write (at 0 0) first_bytes) (Wrote 5 (at 0 5)) (written_store calm)
+  pub register : Does (written_store calm) (Register 0) Done (registered_store calm)
+  pub close : Does (registered_store calm) (Close 0) Done (closed_store calm)
+  pub old : Does (closed_store calm) (Old hall) (Slotted 0) (registered_store calm)
+  pub delete : Does (closed_store calm) (Delete hall) Done (deleted_store calm)
+  -- eight sectors are free, and New would leave seven
+  pub refused : Does (new_store calm) (New []) (No NoRoom) (new_store calm)

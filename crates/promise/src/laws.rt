@@ -1,5 +1,6 @@
 //! What holds of the table, of the ledger, and of the two together, each stated by the contract of a function.
 
+ghost use Rattle.std.specs.Prelude.{Bool};
 ghost use Rattle.promise.specs.Laws.{StaysProper, Accounts, Refusals, StaysSane, RestartForgets, StayTogether, HoldsOne};
 ghost use Rattle.promise.specs.Witnesses.{Witnesses};
 
@@ -40,5 +41,5 @@ pub fn holds_stands()
 
 /// What the calls promise can be kept: calls on a small store, each as it is promised.
 pub fn witnesses_stand()
-    ensures { Witnesses }
+    ensures { (calm : Bool) → Witnesses calm }
 {}
