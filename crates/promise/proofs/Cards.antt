@@ -1,5 +1,5 @@
 -- A small card: its root page, a file in its sector 2, and the tables that stores on it hold.
-use Rattle.std.proofs.Common.{◌≡◌, ℕ, ◌+◌, ◌^◌, ◌<◌, ◌≤◌, ◌⊎◌, Bool, true, false, cond, List, [], ◌∷◌, length, take, sym, refl, ap, ◌∙◌, inl, inr, arith}
+use Rattle.std.proofs.Common.{◌≡◌, ℕ, zero, suc, ◌+◌, ◌^◌, ◌<◌, ◌≤◌, ◌⊎◌, Bool, true, false, cond, List, [], ◌∷◌, length, get_or, take, sym, refl, ap, ◌∙◌, inl, inr, arith}
 use Rattle.std.specs.Prelude.{not, ◌&&◌, ◌==◌, nat_le, nat_lt}
 use Rattle.std.proofs.lemmas.Bool.{and_parts, or_parts, cond_both, leb-true, ltb-true}
 use Rattle.numbers.specs.Names.{Key}
@@ -7,7 +7,7 @@ use Rattle.numbers.specs.Sectors.{address}
 use Rattle.numbers.specs.Lengths.{sector_size, header_size, longest, last_sector, tables}
 use Rattle.layout.specs.Words.{blank}
 use Rattle.tree.specs.Tree.{Item, page}
-use Rattle.disk.specs.Meaning.{Contents, In}
+use Rattle.disk.specs.Meaning.{Contents, Whole, In}
 use Rattle.catalog.specs.Catalogs.{Catalog, Distinct, range, member, bytes_of}
 use Rattle.catalog.specs.Lays.{PageAt, FileAt, Lays}
 use Rattle.catalog.specs.Laws.{Sized}
@@ -111,3 +111,36 @@ lays-hall = record {
   once = distinct (1 ∷ 2 ∷ []) refl;
   within = within 1 sector_count (1 ∷ 2 ∷ []) refl;
 }
+
+-- BYTES
+below-at : (l : List ℕ) → all_within 0 256 l ≡ true → (i : ℕ) → get_or l i 0 < 256
+below-at [] h i = omega arith
+below-at (x ∷ l) h zero = (within 0 256 (x ∷ l) h x (inl refl)).1
+below-at (x ∷ l) h (suc i) = below-at l (and_parts (nat_le 0 x && nat_lt x 256) (all_within 0 256 l) h).1 i
+
+root-empty-whole : Whole (root_of [])
+unfolding blank
+root-empty-whole = record { long = root-empty.1; bytes = below-at (root_of []) refl }
+
+root-hall-whole : Whole (root_of hall_entry)
+unfolding blank
+root-hall-whole = record { long = root-hall.1; bytes = below-at (root_of hall_entry) refl }
+
+hall-whole : Whole (hall_sector 5 first_bytes)
+hall-whole = record { long = hall-long; bytes = below-at (hall_sector 5 first_bytes) refl }
+
+blank-whole : Whole blank
+unfolding blank
+blank-whole = record { long = refl; bytes = below-at blank refl }
+
+all-whole : (xs : List (Item Key (Unit {0}))) (second : Contents) → Whole (root_of xs) → Whole second → (k : ℕ) → Whole (contents xs second k)
+all-whole xs second h w k = cond_both (k == 1) (root_of xs) (cond (k == 2) second blank) Whole (λ e. h) (λ e. cond_both (k == 2) second blank Whole (λ f. w) (λ f. blank-whole))
+
+pub empty-whole : (k : ℕ) → Whole (contents [] blank k)
+empty-whole = all-whole [] blank root-empty-whole blank-whole
+
+pub begun-whole : (k : ℕ) → Whole (contents [] (hall_sector 5 first_bytes) k)
+begun-whole = all-whole [] (hall_sector 5 first_bytes) root-empty-whole hall-whole
+
+pub closed-whole : (k : ℕ) → Whole (contents hall_entry (hall_sector 5 first_bytes) k)
+closed-whole = all-whole hall_entry (hall_sector 5 first_bytes) root-hall-whole hall-whole

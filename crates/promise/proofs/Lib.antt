@@ -18,3 +18,4 @@ pub mod Holding
 pub mod Cards
 pub mod Stores
 pub mod Witnesses
+pub mod Restarts

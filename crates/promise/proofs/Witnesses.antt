@@ -9,16 +9,21 @@ use Rattle.catalog.specs.Catalogs.{Catalog, entries, page_sectors, outside}
 use Rattle.catalog.specs.Laws.{Sized}
 use Rattle.promise.specs.declared.fault.FileFault.{FileFault}
 use Rattle.promise.specs.declared.fault.FileFault.TheVariants.{NoRoom}
-use Rattle.promise.specs.Table.{File, Sort, Anonymous, Registered, Slot, Table, Call, New, Old, Delete, Write, Register, Close, Answer, Done, Slotted, Wrote, No, slot_at, changes, plain, formatted, Spare, Turn, said, Proper}
+use Rattle.promise.specs.Faults.{is_three, by_disk}
+use Rattle.promise.specs.Table.{File, Sort, Anonymous, Registered, Slot, Table, Call, New, Old, Delete, Write, Register, Close, Answer, Done, Slotted, Wrote, No, slot_at, changes, plain, waits, formatted, Spare, Turn, said, gone, Proper}
 use Rattle.promise.specs.Promise.{Open, View}
 use Rattle.promise.specs.Calls.{seen, NamedAs, OpenAs, uses, says_three, closes, file_at, Unput, Head, DirectoryPut, Holds, Turned}
-use Rattle.promise.specs.Examples.{at, hall}
-use Rattle.promise.specs.Witnesses.{sector_count, disk_of, contents, in_second, hall_sector, first_bytes, hall_entry, none_open, hall_open, free_after, store, formatted_store, new_store, written_store, registered_store, closed_store, deleted_store, Does, Witnesses}
+use Rattle.promise.specs.Examples.{at, hall, lost}
+use Rattle.promise.specs.Witnesses.{sector_count, disk_of, contents, in_second, hall_sector, first_bytes, hall_entry, none_open, hall_open, free_after, store, formatted_store, new_store, written_store, registered_store, closed_store, deleted_store, lost_store, Does, Witnesses, Refused}
 use Rattle.promise.proofs.Slots.{no-slot}
 use Rattle.promise.proofs.StayProper.{turns, formatted-proper}
 use Rattle.promise.proofs.Holding.{catalog-one, extents-one, holds-one}
 use Rattle.promise.proofs.Cards.{root-empty, root-hall, hall-long, hall-laid, hall-bytes, no-bytes, sized}
+use Rattle.promise.proofs.Restarts.{format-done, format-lost, format-small, start-done, start-forgets, start-lost, start-small}
 use Rattle.promise.proofs.Stores.{formatted-holds, new-holds, written-holds, registered-holds, closed-holds, deleted-holds}
+
+false-true : false ≡ true → ⊥
+false-true e = cc
 
 -- TABLES that a store holds: like one of them, but for the files
 abbrev over : Table → (ℕ → File) → Table
@@ -324,8 +329,49 @@ module _ (calm : Bool) (f : ℕ → File) where
       first s (inl e) = inl e
       first s (inr i) = absurd i
 
+-- A REGISTER whose Settle is gone
+register-lost : (f : ℕ → File) (h : Holds (written_store false) (over written_table f)) → Turned (written_store false) (over written_table f) h (Register 0) (No (by_disk lost)) lost_store
+register-lost f h = record {
+  table = waits (over written_table f);
+  turn = gone (Register 0) lost refl refl refl;
+  ready = refl;
+  holds = λ e. absurd (false-true e);
+  new = λ n s e g. absurd (no-slotted s g);
+  took = λ k s i. absurd (false-true k.live);
+  freed = λ k s i. absurd (false-true k.live);
+  answered = record { lost = (λ _. refl, λ _. refl); accepts = λ e _. absurd (false-true e); calm = λ e. e; size = refl };
+  unput = λ r e b. absurd (three r e b);
+  settled = λ e. absurd (no-done e);
+  head = λ s o e g d. absurd (no-done d);
+  others = λ s o n e. absurd (elim e [ inl a ↦ first-only _ s o n a | inr a ↦ first-only _ s o n a ]);
+  moved = λ e. absurd (no-done e);
+  pages = λ e. absurd (no-done e);
+}
+  where
+    no-slotted : (s : ℕ) → No (by_disk lost) ≡ Slotted s → ⊥
+    no-slotted s e = cc
+
+    no-done : No (by_disk lost) ≡ Done → ⊥
+    no-done e = cc
+
+    three : (r : FileFault) → No (by_disk lost) ≡ No r → is_three r ≡ false → ⊥
+    three r e b = let q : by_disk lost ≡ r = cc in false-true (sym b ∙ ap is_three (sym q))
+
+pub refused : Refused
+refused = record {
+  register = does (written_store false) lost_store written_table (Register 0) (No (by_disk lost)) z₀ (written-holds false written_table.files refl written-proper) refl refl register-lost;
+  after = record { waits = λ _. (refl, refl); turns = λ e. absurd (false-true e); size = refl; keeps = λ l k. tt };
+  start = start-forgets;
+  start_lost = start-lost;
+  format = format-lost;
+  start_small = start-small;
+  format_small = format-small;
+}
+
 pub witnesses : (calm : Bool) → Witnesses calm
 witnesses calm = record {
+  format = format-done calm;
+  start = start-done calm;
   holds = formatted-holds calm;
   new = does (formatted_store calm) (new_store calm) formatted_table (New hall) (Slotted 0) z₀ (formatted-holds calm) refl refl (new-turns calm);
   write = does (new_store calm) (written_store calm) new_table (Write (at 0 0) first_bytes) (Wrote 5 (at 0 5)) z₀ (new-holds calm new_table.files refl new-proper) refl refl (write-turns calm);

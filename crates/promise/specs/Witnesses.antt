@@ -1,5 +1,5 @@
 -- What the calls promise can be kept: a small store that is formatted, and calls on it, each as it is promised.
-use Rattle.std.specs.Prelude.{ℕ, ◌-◌, Bool, true, cond, List, [], ◌∷◌, ◌++◌, length, replicate, Some, None, codes, Option, ◌==◌}
+use Rattle.std.specs.Prelude.{ℕ, ◌-◌, Bool, true, false, cond, List, [], ◌∷◌, ◌++◌, length, replicate, Some, None, codes, Option, ◌==◌}
 use Rattle.numbers.specs.Lengths.{sector_size, header_size}
 use Rattle.numbers.specs.Names.{Key}
 use Rattle.layout.specs.Words.{blank}
@@ -9,12 +9,14 @@ use Rattle.tree.specs.Tree.{Item, item, page}
 use Rattle.disk.specs.Meaning.{Contents, Meaning}
 use Rattle.catalog.specs.Catalogs.{Extent}
 use Rattle.catalog.specs.Written.{page_data, header_of}
-use Rattle.promise.specs.declared.fault.FileFault.TheVariants.{NoRoom}
+use Rattle.catalog.specs.declared.fault.LayoutFault.TheVariants.{BadSize}
+use Rattle.promise.specs.declared.fault.FileFault.TheVariants.{Waiting, NoRoom}
+use Rattle.promise.specs.Faults.{by_disk, by_layout}
 use Rattle.promise.specs.Table.{Sort, Anonymous, Registered, Call, New, Old, Delete, Write, Register, Close, Answer, Done, Slotted, Wrote, No, formatted}
 use Rattle.promise.specs.Ledger.{Ledger}
 use Rattle.promise.specs.Promise.{Open, View}
-use Rattle.promise.specs.Calls.{Holds, Did}
-use Rattle.promise.specs.Examples.{at, hall}
+use Rattle.promise.specs.Calls.{Holds, Formatted, Did, Starts}
+use Rattle.promise.specs.Examples.{at, hall, lost}
 
 -- THE DISK: eleven sectors with these contents, live and settled
 abbrev pub sector_count : ℕ
@@ -76,18 +78,56 @@ closed_store calm = store none_open free_after (disk_of calm (contents hall_entr
 abbrev pub deleted_store : Bool → View
 deleted_store calm = store none_open free_after (disk_of calm (contents [] (hall_sector 5 first_bytes)))
 
--- a call as it is promised, apart from what is kept towards the ledger: of every table that the store before it holds
+-- the Register's first Put was accepted and its Settle was gone: sector 2 may be either. The store then waits
+abbrev pub lost_disk : Meaning
+lost_disk =
+    record { size = sector_count; live = false; calm = false; shown = contents [] (hall_sector 5 first_bytes); may = λ n. contents [] blank n ∷ contents [] (hall_sector 5 first_bytes) n ∷ [] }
+
+abbrev pub lost_store : View
+lost_store = record { ready = false; slots = hall_open Anonymous 5 first_bytes; free = free_after; disk = lost_disk }
+
+-- a store without a memory
+abbrev pub waiting : Meaning → View
+waiting disk = record { ready = false; slots = none_open; free = []; disk = disk }
+
+-- restarted: the file without a name is forgotten
+abbrev pub forgotten_store : View
+forgotten_store = store none_open (2 ∷ free_after) (disk_of false (contents [] (hall_sector 5 first_bytes)))
+
+-- a disk that does not answer any more, and one that is too small
+abbrev pub off : Meaning → Meaning
+off m = record { size = m.size; live = false; calm = m.calm; shown = m.shown; may = m.may }
+
+abbrev pub small_disk : Meaning
+small_disk = record { size = 2; live = true; calm = true; shown = λ n. blank; may = λ n. blank ∷ [] }
+
+-- as it is promised, apart from what is kept towards the ledger. A call is so of every table that the store before it holds
+abbrev pub Kept : Ledger → View → Type 0
+Kept l v = Unit {0}
+
 abbrev pub Does : View → Call → Answer → View → Type 0
-Does = Did (λ (l : Ledger) (v : View). Unit {0})
+Does = Did Kept
 
 -- on a calm disk or not: the first store holds the empty table, and each call goes on from a store that another one left
 pub record Witnesses (calm : Bool) : Type 0 where
+  pub format : Formatted Kept (waiting (disk_of calm (λ n. blank))) Done (formatted_store calm)
   pub holds : Holds (formatted_store calm) (formatted sector_count)
   pub new : Does (formatted_store calm) (New hall) (Slotted 0) (new_store calm)
   pub write : Does (new_store calm) (Write (at 0 0) first_bytes) (Wrote 5 (at 0 5)) (written_store calm)
   pub register : Does (written_store calm) (Register 0) Done (registered_store calm)
   pub close : Does (registered_store calm) (Close 0) Done (closed_store calm)
+  pub start : Starts Kept (waiting (off (closed_store calm).disk)) Done (closed_store calm)
   pub old : Does (closed_store calm) (Old hall) (Slotted 0) (registered_store calm)
   pub delete : Does (closed_store calm) (Delete hall) Done (deleted_store calm)
   -- eight sectors are free, and New would leave seven
   pub refused : Does (new_store calm) (New []) (No NoRoom) (new_store calm)
+
+-- 3, and 1
+pub record Refused : Type 0 where
+  pub register : Does (written_store false) (Register 0) (No (by_disk lost)) lost_store
+  pub after : Does lost_store (Close 0) (No Waiting) lost_store
+  pub start : Starts Kept lost_store Done forgotten_store
+  pub start_lost : Starts Kept lost_store (No (by_disk lost)) (waiting lost_disk)
+  pub format : Formatted Kept lost_store (No (by_disk lost)) lost_store
+  pub start_small : Starts Kept (waiting small_disk) (No (by_layout BadSize)) (waiting small_disk)
+  pub format_small : Formatted Kept (waiting small_disk) (No (by_layout BadSize)) (waiting small_disk)

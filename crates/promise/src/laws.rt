@@ -2,7 +2,7 @@
 
 ghost use Rattle.std.specs.Prelude.{Bool};
 ghost use Rattle.promise.specs.Laws.{StaysProper, Accounts, Refusals, StaysSane, RestartForgets, StayTogether, HoldsOne};
-ghost use Rattle.promise.specs.Witnesses.{Witnesses};
+ghost use Rattle.promise.specs.Witnesses.{Witnesses, Refused};
 
 /// Every call keeps the table proper, whatever it answers.
 pub fn proper_stands()
@@ -41,5 +41,6 @@ pub fn holds_stands()
 
 /// What the calls promise can be kept: calls on a small store, each as it is promised.
 pub fn witnesses_stand()
-    ensures { (calm : Bool) → Witnesses calm }
+    ensures done { (calm : Bool) → Witnesses calm }
+    ensures refused { Refused }
 {}

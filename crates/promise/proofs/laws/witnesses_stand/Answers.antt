@@ -1,5 +1,5 @@
 use Rattle.promise.proofs.laws.witnesses_stand.Goals as goal
-use Rattle.promise.proofs.Witnesses.{witnesses}
+use Rattle.promise.proofs.Witnesses.{witnesses, refused}
 
 pub returns : goal.returns
-returns c = witnesses
+returns c = record { done = witnesses; refused = refused }
