@@ -1,10 +1,10 @@
 -- Calls on the small store, each as it is promised.
-use Rattle.std.proofs.Common.{◌≡◌, ℕ, zero, suc, Bool, true, false, ◌⊎◌, List, [], ◌∷◌, length, get_or, replicate, Some, None, Option, sym, refl, ap, ◌∙◌, subst, ap₂, inl, inr, arith}
+use Rattle.std.proofs.Common.{◌≡◌, ℕ, zero, suc, Bool, true, false, ◌⊎◌, [], ◌∷◌, length, get_or, replicate, Some, None, Option, sym, refl, ap, ◌∙◌, subst, inl, inr, arith}
 use Rattle.std.specs.Prelude.{cond, ◌==◌, ◌≢◌}
 use Rattle.std.proofs.lemmas.Option.{none-some, same_Some}
 use Rattle.numbers.specs.Names.{Key}
 use Rattle.layout.specs.Words.{blank}
-use Rattle.disk.specs.Meaning.{Contents, Meaning, In}
+use Rattle.disk.specs.Meaning.{Contents, In}
 use Rattle.catalog.specs.Catalogs.{Catalog, entries, page_sectors, outside}
 use Rattle.catalog.specs.Laws.{Sized}
 use Rattle.promise.specs.declared.fault.FileFault.{FileFault}
@@ -12,12 +12,13 @@ use Rattle.promise.specs.declared.fault.FileFault.TheVariants.{NoRoom}
 use Rattle.promise.specs.Faults.{is_three, by_disk}
 use Rattle.promise.specs.Table.{File, Sort, Anonymous, Registered, Slot, Table, Call, New, Old, Delete, Write, Register, Close, Answer, Done, Slotted, Wrote, No, slot_at, changes, plain, waits, formatted, Spare, Turn, said, gone, Proper}
 use Rattle.promise.specs.Promise.{Open, View}
-use Rattle.promise.specs.Calls.{seen, NamedAs, OpenAs, uses, says_three, closes, file_at, Unput, Head, DirectoryPut, Holds, Turned}
+use Rattle.promise.specs.Calls.{seen, NamedAs, OpenAs, file_at, Head, DirectoryPut, Holds, Turned}
 use Rattle.promise.specs.Examples.{at, hall, lost}
-use Rattle.promise.specs.Witnesses.{sector_count, disk_of, contents, in_second, hall_sector, first_bytes, hall_entry, none_open, hall_open, free_after, store, formatted_store, new_store, written_store, registered_store, closed_store, deleted_store, lost_store, Does, Witnesses, Refused}
+use Rattle.promise.specs.Witnesses.{sector_count, disk_of, contents, in_second, hall_sector, first_bytes, hall_entry, none_open, hall_open, free_after, formatted_store, new_store, written_store, registered_store, closed_store, deleted_store, lost_store, Does, Witnesses, Refused}
 use Rattle.promise.proofs.Slots.{no-slot}
 use Rattle.promise.proofs.StayProper.{turns, formatted-proper}
 use Rattle.promise.proofs.Holding.{catalog-one, extents-one, holds-one}
+use Rattle.promise.proofs.Turning.{took-by, directory-by, quiet, puts}
 use Rattle.promise.proofs.Cards.{root-empty, root-hall, hall-long, hall-laid, hall-bytes, no-bytes, sized}
 use Rattle.promise.proofs.Restarts.{format-done, format-lost, format-small, start-done, start-forgets, start-lost, start-small}
 use Rattle.promise.proofs.Stores.{formatted-holds, new-holds, written-holds, registered-holds, closed-holds, deleted-holds}
@@ -44,82 +45,6 @@ does v v' u c a z k r s g = record {
     differ : false ≡ true → ⊥
     differ e = cc
 
--- the sectors in use, and what relates the directories before and after, of one table that each store holds
-module _ (v v' : View) (t u t' u' : Table) (z : Sized v.disk.size v.disk.shown) (z' : Sized v'.disk.size v'.disk.shown) (h : Holds v t) (k : Holds v u) (k' : Holds v' u') where
-  took-by : ((s : ℕ) → In s (uses t' k'.catalog k'.extents) → In s v.free ⊎ In s (uses t k.catalog k.extents)) →
-      (h' : Holds v' t') (s : ℕ) → In s (uses t' h'.catalog h'.extents) → In s v.free ⊎ In s (uses t h.catalog h.extents)
-  took-by g h' s i =
-      let e = ap₂ (uses t) (catalog-one v t u z h k) (extents-one v t u z h k) in
-      let e' = ap₂ (uses t') (catalog-one v' t' u' z' h' k') (extents-one v' t' u' z' h' k') in
-      subst (λ (l : List ℕ). In s v.free ⊎ In s l) (sym e) (g s (subst (In s) e' i))
-
-  directory-by : (P : Catalog → Catalog → Type 0) → P k.catalog k'.catalog → (h' : Holds v' t') → P h.catalog h'.catalog
-  directory-by P p h' = subst (λ (c : Catalog). P c h'.catalog) (sym (catalog-one v t u z h k)) (subst (P k.catalog) (sym (catalog-one v' t' u' z' h' k')) p)
-
--- CALLS that put nothing, on a store with this disk
-module _ (m : Meaning) (slots slots' : List (Option Open)) (free free' : List ℕ) (t : Table) (h : Holds (store slots free m) t) where
-  quiet : (c : Call) (a : Answer) (t' : Table) → Turn t c a t' → t'.ready ≡ true → Holds (store slots' free' m) t' → m.live ≡ true → says_three a ≡ false → (a ≡ Done → ⊥) →
-      ((n : Key) (s : ℕ) → c ≡ New n → a ≡ Slotted s → In (file_at (store slots' free' m) s) free) →
-      ((k : Holds (store slots' free' m) t') (s : ℕ) → In s (uses t' k.catalog k.extents) → In s free ⊎ In s (uses t h.catalog h.extents)) →
-      ((s : ℕ) → In s free' → In s free) → Turned (store slots free m) t h c a (store slots' free' m)
-  quiet c a t' u r k l n d new took freed = record {
-    table = t';
-    turn = u;
-    ready = sym r;
-    holds = λ _. k;
-    new = new;
-    took = took;
-    freed = λ _ s i. inl (freed s i);
-    answered = record { lost = (λ e. absurd (differ (sym n ∙ e)), λ e. absurd (differ (sym e ∙ l))); accepts = λ _ _. n; calm = λ e. e; size = refl };
-    unput = λ f e b. (λ k x. refl, λ k x y i. i);
-    settled = λ e. absurd (d e);
-    head = λ s o e f g. absurd (d g);
-    others = λ s o e f. (refl, λ x i. i);
-    moved = λ e. absurd (d e);
-    pages = λ e. absurd (d e);
-  }
-    where
-      differ : false ≡ true → ⊥
-      differ e = cc
-
--- CALLS that put and settle, and take no sector
-module _ (calm : Bool) (shown shown' : ℕ → Contents) (slots slots' : List (Option Open)) (free : List ℕ) (t : Table) (h : Holds (store slots free (disk_of calm shown)) t) where
-  puts : (c : Call) (t' : Table) → Turn t c Done t' → t'.ready ≡ true → Holds (store slots' free (disk_of calm shown')) t' →
-      ((k : Holds (store slots' free (disk_of calm shown')) t') (s : ℕ) → In s (uses t' k.catalog k.extents) → In s free ⊎ In s (uses t h.catalog h.extents)) →
-      ((s : ℕ) (o : Open) → closes c ≡ Some s → get_or slots s None ≡ Some o → Head o (t'.files o.slot.file) shown') →
-      ((s : ℕ) (o : Open) → closes c ≢ Some s → (get_or slots s None ≡ Some o) ⊎ (get_or slots' s None ≡ Some o) → Unput (store slots free (disk_of calm shown)) (store slots' free (disk_of calm shown')) o.slot.file) →
-      ((k : Holds (store slots' free (disk_of calm shown')) t') → (length (outside (page_sectors h.catalog) (page_sectors k.catalog)) ≡ changes t t'.tree) × DirectoryPut h.catalog shown shown' k.catalog) →
-      Turned (store slots free (disk_of calm shown)) t h c Done (store slots' free (disk_of calm shown'))
-  puts c t' u r k took head others directory = record {
-    table = t';
-    turn = u;
-    ready = sym r;
-    holds = λ _. k;
-    new = λ n s e f. absurd (not-slotted s f);
-    took = took;
-    freed = λ _ s i. inl i;
-    answered = record { lost = (λ e. absurd (differ e), λ e. absurd (differ (sym e))); accepts = λ _ _. refl; calm = λ e. e; size = refl };
-    unput = λ f e b. absurd (not-no f e);
-    settled = λ _ k x l i. only k x i;
-    head = λ s o e f _. head s o e f;
-    others = others;
-    moved = λ _ k. (directory k).0;
-    pages = λ _ k. (directory k).1;
-  }
-    where
-      differ : false ≡ true → ⊥
-      differ e = cc
-
-      not-slotted : (s : ℕ) → Done ≡ Slotted s → ⊥
-      not-slotted s e = cc
-
-      not-no : (f : FileFault) → Done ≡ No f → ⊥
-      not-no f e = cc
-
-      only : (k : ℕ) (x : Contents) → In x (shown' k ∷ []) → x ≡ shown' k
-      only k x (inl e) = e
-      only k x (inr i) = absurd i
-
 sized-empty : (second : Contents) → length second ≡ 1024 → Sized sector_count (contents [] second)
 sized-empty second l = sized [] second root-empty.1 l
 
@@ -128,7 +53,7 @@ unfolding blank
 blank-long = refl
 
 -- SLOTS: only slot 0 may be used
-none-later : {A : Type 0} (n k : ℕ) (o : A) → get_or (replicate n None) k None ≡ Some o → ⊥
+pub none-later : {A : Type 0} (n k : ℕ) (o : A) → get_or (replicate n None) k None ≡ Some o → ⊥
 none-later zero k o e = none-some o e
 none-later (suc n) zero o e = none-some o e
 none-later (suc n) (suc k) o e = none-later n k o e
@@ -265,9 +190,9 @@ module _ (calm : Bool) (f : ℕ → File) where
       let b : (f 2).bytes ≡ first_bytes = (open-as (written_store calm) t written_table z₀ h k₀).2 ∙ sym (hall-bytes (seen (written_store calm)) refl) in
       let u : Turn t (Register 0) Done t' = said (Register 0) 0 refl in
       let k = registered-holds calm t'.files (ap length b) b (turns t t' (Register 0) Done h.proper u) in
-      puts calm (contents [] blank) (contents hall_entry (hall_sector 5 first_bytes)) (hall_open Anonymous 5 first_bytes) (hall_open Registered 5 first_bytes) free_after t h (Register 0) t' u refl k
+      puts sector_count calm (contents [] blank) (contents hall_entry (hall_sector 5 first_bytes)) (hall_open Anonymous 5 first_bytes) (hall_open Registered 5 first_bytes) free_after free_after t h (Register 0) t' u refl k
       (took-by (written_store calm) (registered_store calm) t written_table t' t' z₀ z₁ h k₀ k (λ s i. inr i))
-      (hall-head Anonymous t'.files b)
+      (λ s i. inl i) (hall-head Anonymous t'.files b)
       (λ s o n e. absurd (elim e [ inl a ↦ first-only _ s o n a | inr a ↦ first-only _ s o n a ]))
       (directory-by (written_store calm) (registered_store calm) t written_table t' t' z₀ z₁ h k₀ k
       (λ c d. (length (outside (page_sectors c) (page_sectors d)) ≡ changes t t'.tree) × DirectoryPut c (contents [] blank) (contents hall_entry (hall_sector 5 first_bytes)) d) (refl, (inr refl, (tt, (tt, tt)))))
@@ -283,9 +208,9 @@ module _ (calm : Bool) (f : ℕ → File) where
       let u : Turn t (Close 0) Done t' = said (Close 0) 0 refl in
       let k = closed-holds calm t'.files (ap length b) b (turns t t' (Close 0) Done h.proper u) in
       let shown = contents hall_entry (hall_sector 5 first_bytes) in
-      puts calm shown shown (hall_open Registered 5 first_bytes) none_open free_after t h (Close 0) t' u refl k
+      puts sector_count calm shown shown (hall_open Registered 5 first_bytes) none_open free_after free_after t h (Close 0) t' u refl k
       (took-by (registered_store calm) (closed_store calm) t registered_table t' t' z₁ z₁ h k₀ k (λ s i. inr i))
-      (hall-head Registered t'.files b)
+      (λ s i. inl i) (hall-head Registered t'.files b)
       (λ s o n e. (refl, λ x i. i))
       (directory-by (registered_store calm) (closed_store calm) t registered_table t' t' z₁ z₁ h k₀ k
       (λ c d. (length (outside (page_sectors c) (page_sectors d)) ≡ changes t t'.tree) × DirectoryPut c shown shown d) (refl, (inl refl, (tt, (tt, tt)))))
@@ -318,9 +243,9 @@ module _ (calm : Bool) (f : ℕ → File) where
       let shown' = contents [] (hall_sector 5 first_bytes) in
       let u : Turn t (Delete hall) Done t' = said (Delete hall) 0 refl in
       let k = deleted-holds calm t'.files (turns t t' (Delete hall) Done h.proper u) in
-      puts calm shown shown' none_open none_open free_after t h (Delete hall) t' u refl k
+      puts sector_count calm shown shown' none_open none_open free_after free_after t h (Delete hall) t' u refl k
       (took-by (closed_store calm) (deleted_store calm) t closed_table t' t' z₁ (sized-empty (hall_sector 5 first_bytes) hall-long) h k₀ k (λ s i. inr (first s i)))
-      (λ s o e. absurd (none-some s e))
+      (λ s i. inl i) (λ s o e. absurd (none-some s e))
       (λ s o n e. absurd (elim e [ inl a ↦ none-later 8 s o a | inr a ↦ none-later 8 s o a ]))
       (directory-by (closed_store calm) (deleted_store calm) t closed_table t' t' z₁ (sized-empty (hall_sector 5 first_bytes) hall-long) h k₀ k
       (λ c d. (length (outside (page_sectors c) (page_sectors d)) ≡ changes t t'.tree) × DirectoryPut c shown shown' d) (refl, (inr refl, (tt, tt))))

@@ -8,3 +8,4 @@ pub mod Together
 pub mod Laws
 pub mod Examples
 pub mod Witnesses
+pub mod Splits

@@ -18,12 +18,15 @@ use Rattle.promise.specs.Promise.{Open, View}
 use Rattle.promise.specs.Calls.{Holds, Formatted, Did, Starts}
 use Rattle.promise.specs.Examples.{at, hall, lost}
 
--- THE DISK: eleven sectors with these contents, live and settled
+-- THE DISK: eleven sectors with these contents, live and settled; calm or not
 abbrev pub sector_count : ℕ
 sector_count = 11
 
+abbrev pub settled_disk : ℕ → Bool → (ℕ → Contents) → Meaning
+settled_disk size calm shown = record { size = size; live = true; calm = calm; shown = shown; may = λ n. shown n ∷ [] }
+
 abbrev pub disk_of : Bool → (ℕ → Contents) → Meaning
-disk_of calm shown = record { size = sector_count; live = true; calm = calm; shown = shown; may = λ n. shown n ∷ [] }
+disk_of = settled_disk sector_count
 
 -- sector 1 is the root page, with these entries and no page below; sector 2 as given; the others are zeros
 abbrev pub root_of : List (Item Key (Unit {0})) → Contents

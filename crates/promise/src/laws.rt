@@ -3,6 +3,7 @@
 ghost use Rattle.std.specs.Prelude.{Bool};
 ghost use Rattle.promise.specs.Laws.{StaysProper, Accounts, Refusals, StaysSane, RestartForgets, StayTogether, HoldsOne};
 ghost use Rattle.promise.specs.Witnesses.{Witnesses, Refused};
+ghost use Rattle.promise.specs.Splits.{Splits};
 
 /// Every call keeps the table proper, whatever it answers.
 pub fn proper_stands()
@@ -43,4 +44,9 @@ pub fn holds_stands()
 pub fn witnesses_stand()
     ensures done { (calm : Bool) → Witnesses calm }
     ensures refused { Refused }
+{}
+
+/// It can be kept where pages are split and joined too.
+pub fn splits_stand()
+    ensures { Splits }
 {}
