@@ -1,16 +1,15 @@
 -- A small card: its root page, a file in its sector 2, and the tables that stores on it hold.
-use Rattle.std.proofs.Common.{◌≡◌, ℕ, zero, suc, ◌+◌, ◌^◌, ◌<◌, ◌≤◌, ◌⊎◌, Bool, true, false, cond, List, [], ◌∷◌, length, get_or, take, sym, refl, ap, ◌∙◌, inl, inr, arith}
-use Rattle.std.specs.Prelude.{not, ◌&&◌, ◌==◌, nat_le, nat_lt}
-use Rattle.std.proofs.lemmas.Bool.{and_parts, or_parts, cond_both, leb-true, ltb-true}
+use Rattle.std.proofs.Common.{◌≡◌, ℕ, zero, suc, ◌+◌, ◌^◌, ◌<◌, ◌≤◌, ◌⊎◌, Bool, true, false, cond, List, [], ◌∷◌, length, get_or, take, sym, refl, ap, ◌∙◌, subst, inl, inr, arith}
+use Rattle.std.specs.Prelude.{not, ◌&&◌, ◌||◌, ◌==◌, nat_le, nat_lt}
+use Rattle.std.proofs.lemmas.Bool.{and_parts, or_parts, cond_both, eqb-true, leb-true, ltb-true}
 use Rattle.numbers.specs.Names.{Key}
 use Rattle.numbers.specs.Sectors.{address}
 use Rattle.numbers.specs.Lengths.{sector_size, header_size, longest, last_sector, tables}
 use Rattle.layout.specs.Words.{blank}
 use Rattle.tree.specs.Tree.{Item, page}
 use Rattle.disk.specs.Meaning.{Contents, Whole, In}
-use Rattle.catalog.specs.Catalogs.{Catalog, Distinct, range, member, bytes_of}
+use Rattle.catalog.specs.Catalogs.{Extent, Catalog, Distinct, extents_sectors, range, member, bytes_of}
 use Rattle.catalog.specs.Lays.{PageAt, FileAt, Lays}
-use Rattle.catalog.specs.Laws.{Sized}
 use Rattle.catalog.proofs.Written.{page-written, head-written}
 use Rattle.promise.specs.Examples.{hall}
 use Rattle.promise.specs.Witnesses.{sector_count, root_of, contents, in_second, hall_sector, first_bytes, hall_entry}
@@ -47,6 +46,28 @@ within low high (x ∷ l) h n (inl e) =
     let b = ltb-true x high p.1 in
     (omega arith, omega arith)
 
+-- in one of two lists
+member-in : (n : ℕ) (l : List ℕ) → member n l ≡ true → In n l
+member-in n [] h = cc
+member-in n (x ∷ l) h = go (n == x) refl h (member-in n l)
+  where
+    go : (b : Bool) → (n == x) ≡ b → (b || member n l) ≡ true → (member n l ≡ true → In n l) → (n ≡ x) ⊎ In n l
+    go true e k r = inl (eqb-true n x e)
+    go false e k r = inr (r k)
+
+abbrev pub all_in : List ℕ → List ℕ → List ℕ → Bool
+all_in a b [] = true
+all_in a b (x ∷ l) = (member x a || member x b) && all_in a b l
+
+pub either-in : (a b l : List ℕ) → all_in a b l ≡ true → (n : ℕ) → In n l → In n a ⊎ In n b
+either-in a b [] h n i = absurd i
+either-in a b (x ∷ l) h n (inr i) = either-in a b l (and_parts (member x a || member x b) (all_in a b l) h).1 n i
+either-in a b (x ∷ l) h n (inl e) = subst (λ (m : ℕ). In m a ⊎ In m b) (sym e) (go (member x a) refl (and_parts (member x a || member x b) (all_in a b l) h).0)
+  where
+    go : (c : Bool) → member x a ≡ c → (c || member x b) ≡ true → In x a ⊎ In x b
+    go true m k = inl (member-in x a m)
+    go false m k = inr (member-in x b k)
+
 -- PAGES AND FIRST SECTORS
 pub root-empty : PageAt 0 (root_of []) (page tt []) × (length (root_of []) ≡ sector_size)
 root-empty = page-written 0 (page tt []) (omega arith, omega arith, tt)
@@ -65,17 +86,14 @@ hall-laid shown n bs e l z = head-written shown 2 hall (in_second n)
     small s (inr i) = absurd i
 
 -- each sector is whole
-pub sized : (xs : List (Item Key (Unit {0}))) (second : Contents) → length (root_of xs) ≡ sector_size → length second ≡ sector_size → Sized sector_count (contents xs second)
+pub contents-long : (xs : List (Item Key (Unit {0}))) (second : Contents) → length (root_of xs) ≡ sector_size → length second ≡ sector_size → (s : ℕ) → length (contents xs second s) ≡ sector_size
 unfolding blank
-sized xs second h k s l = cond_both (s == 1) (root_of xs) (cond (s == 2) second blank) (λ (c : Contents). length c ≡ sector_size) (λ e. h) (λ e. cond_both (s == 2) second blank (λ (c : Contents). length c ≡ sector_size) (λ f. k) (λ f. refl))
+contents-long xs second h k s = cond_both (s == 1) (root_of xs) (cond (s == 2) second blank) (λ (c : Contents). length c ≡ sector_size) (λ e. h) (λ e. cond_both (s == 2) second blank (λ (c : Contents). length c ≡ sector_size) (λ f. k) (λ f. refl))
 
-pub hall-long : length (hall_sector 5 (first_bytes)) ≡ sector_size
+pub hall-long : length (hall_sector 5 first_bytes) ≡ sector_size
 hall-long = refl
 
-pub hall-empty-long : length (hall_sector 0 []) ≡ sector_size
-hall-empty-long = refl
-
-pub hall-bytes : (shown : ℕ → Contents) → shown 2 ≡ hall_sector 5 (first_bytes) → first_bytes ≡ bytes_of shown (in_second 5)
+pub hall-bytes : (shown : ℕ → Contents) → shown 2 ≡ hall_sector 5 first_bytes → first_bytes ≡ bytes_of shown (in_second 5)
 unfolding bytes_of range
 hall-bytes shown e = rw e refl
 
@@ -98,19 +116,26 @@ lays-empty second = record {
   within = within 1 sector_count (1 ∷ []) refl;
 }
 
-abbrev pub hall_catalog : Catalog
-hall_catalog = record { over = 0; root = (1, page tt hall_entry); files = in_second 5 ∷ [] }
+abbrev pub one_file : Extent → Catalog
+one_file x = record { over = 0; root = (1, page tt hall_entry); files = x ∷ [] }
 
-pub lays-hall : Lays sector_count (contents hall_entry (hall_sector 5 first_bytes)) hall_catalog
-lays-hall = record {
+pub lays-one : (size : ℕ) (shown : ℕ → Contents) (x : Extent) → shown 1 ≡ root_of hall_entry → FileAt shown 2 x → all_apart (1 ∷ extents_sectors (x ∷ [])) ≡ true →
+    all_within 1 size (1 ∷ extents_sectors (x ∷ [])) ≡ true → Lays size shown (one_file x)
+lays-one size shown x e f a w = record {
   root = refl;
   good = record { rises = (tt, tt); few = omega arith; filled = (omega arith, omega arith, tt, (tt, tt)) };
   names = (refl, tt);
-  pages = (root-hall.0, (tt, (tt, tt)));
-  files = (hall-laid (contents hall_entry (hall_sector 5 first_bytes)) 5 first_bytes refl (omega arith) refl, tt);
-  once = distinct (1 ∷ 2 ∷ []) refl;
-  within = within 1 sector_count (1 ∷ 2 ∷ []) refl;
+  pages = (subst (λ (c : Contents). PageAt 0 c (page tt hall_entry)) (sym e) root-hall.0, (tt, (tt, tt)));
+  files = (f, tt);
+  once = distinct (1 ∷ extents_sectors (x ∷ [])) a;
+  within = within 1 size (1 ∷ extents_sectors (x ∷ [])) w;
 }
+
+abbrev pub hall_catalog : Catalog
+hall_catalog = one_file (in_second 5)
+
+pub lays-hall : Lays sector_count (contents hall_entry (hall_sector 5 first_bytes)) hall_catalog
+lays-hall = lays-one sector_count (contents hall_entry (hall_sector 5 first_bytes)) (in_second 5) refl (hall-laid (contents hall_entry (hall_sector 5 first_bytes)) 5 first_bytes refl (omega arith) refl) refl refl
 
 -- BYTES
 below-at : (l : List ℕ) → all_within 0 256 l ≡ true → (i : ℕ) → get_or l i 0 < 256

@@ -13,7 +13,7 @@ use Rattle.promise.specs.Calls.{Holds, Formatted, Starts}
 use Rattle.promise.specs.Examples.{lost}
 use Rattle.promise.specs.Witnesses.{sector_count, disk_of, contents, hall_sector, first_bytes, hall_entry, none_open, free_after, formatted_store, closed_store, lost_disk, lost_store, waiting, forgotten_store, off, small_disk, Kept}
 use Rattle.promise.proofs.StartProper.{started-proper}
-use Rattle.promise.proofs.Cards.{root-empty, root-hall, hall-long, sized, hall-bytes, empty_catalog, lays-empty, hall_catalog, lays-hall, empty-whole, begun-whole, closed-whole}
+use Rattle.promise.proofs.Cards.{root-empty, root-hall, hall-long, contents-long, hall-bytes, empty_catalog, lays-empty, hall_catalog, lays-hall, empty-whole, begun-whole, closed-whole}
 use Rattle.promise.proofs.Stores.{over-empty, over-hall, formatted-holds}
 
 differ : {A : Type 0} → false ≡ true → A
@@ -77,7 +77,7 @@ begun = contents [] (hall_sector 5 first_bytes)
 pub start-done : (calm : Bool) → Starts Kept (waiting (off (closed_store calm).disk)) Done (closed_store calm)
 start-done calm =
     let shown = contents hall_entry (hall_sector 5 first_bytes) in
-    let z : Sized sector_count shown = sized hall_entry (hall_sector 5 first_bytes) root-hall.1 hall-long in
+    let z : Sized sector_count shown = λ s l. contents-long hall_entry (hall_sector 5 first_bytes) root-hall.1 hall-long s in
     let f : found sector_count shown ≡ Ok hall_catalog = (found-laid-both sector_count shown hall_catalog z).1 (refl, lays-hall) in
     let t' = started sector_count shown hall_catalog in
     let k : Holds (closed_store calm) t' = over-hall calm none_open free_after [] t'.files refl (sym (hall-bytes shown refl)) tt (λ y i. absurd i) refl refl (started-proper sector_count shown hall_catalog refl lays-hall) in
@@ -96,7 +96,7 @@ start-done calm =
 pub start-forgets : Starts Kept lost_store Done forgotten_store
 start-forgets =
     let shown = contents [] (hall_sector 5 first_bytes) in
-    let z : Sized sector_count shown = sized [] (hall_sector 5 first_bytes) root-empty.1 hall-long in
+    let z : Sized sector_count shown = λ s l. contents-long [] (hall_sector 5 first_bytes) root-empty.1 hall-long s in
     let f : found sector_count shown ≡ Ok empty_catalog = (found-laid-both sector_count shown empty_catalog z).1 (refl, lays-empty (hall_sector 5 first_bytes)) in
     let t' = started sector_count shown empty_catalog in
     let k : Holds forgotten_store t' = over-empty false none_open (2 ∷ free_after) [] t'.files (hall_sector 5 first_bytes) tt refl refl (started-proper sector_count shown empty_catalog refl (lays-empty (hall_sector 5 first_bytes))) in

@@ -31,7 +31,7 @@ use Rattle.promise.proofs.Slots.{no-slot}
 use Rattle.promise.proofs.Ledgers.{number_in}
 use Rattle.promise.proofs.StayProper.{turns}
 use Rattle.promise.proofs.StartProper.{bytes-long, started-proper}
-use Rattle.promise.proofs.Cards.{all_apart, distinct, all_within, within}
+use Rattle.promise.proofs.Cards.{either-in, all_apart, distinct, all_within, within}
 
 -- EACH SECTOR is as long as it should be
 file-long : (s : ℕ) → length (file_sector s) ≡ sector_size
@@ -76,28 +76,6 @@ longer-found = refl
 joined-found : found 40 joined_shown ≡ Ok joined_catalog
 unfolding found asked catalog ask_table ask_file first_leaf ask_page extent laid range blank
 joined-found = refl
-
--- LISTS, tested
-member-in : (n : ℕ) (l : List ℕ) → member n l ≡ true → In n l
-member-in n [] h = cc
-member-in n (x ∷ l) h = go (n == x) refl h (member-in n l)
-  where
-    go : (b : Bool) → (n == x) ≡ b → (b || member n l) ≡ true → (member n l ≡ true → In n l) → (n ≡ x) ⊎ In n l
-    go true e k r = inl (eqb-true n x e)
-    go false e k r = inr (r k)
-
-abbrev all_in : List ℕ → List ℕ → List ℕ → Bool
-all_in a b [] = true
-all_in a b (x ∷ l) = (member x a || member x b) && all_in a b l
-
-either-in : (a b l : List ℕ) → all_in a b l ≡ true → (n : ℕ) → In n l → In n a ⊎ In n b
-either-in a b [] h n i = absurd i
-either-in a b (x ∷ l) h n (inr i) = either-in a b l (and_parts (member x a || member x b) (all_in a b l) h).1 n i
-either-in a b (x ∷ l) h n (inl e) = subst (λ (m : ℕ). In m a ⊎ In m b) (sym e) (go (member x a) refl (and_parts (member x a || member x b) (all_in a b l) h).0)
-  where
-    go : (c : Bool) → member x a ≡ c → (c || member x b) ≡ true → In x a ⊎ In x b
-    go true m k = inl (member-in x a m)
-    go false m k = inr (member-in x b k)
 
 -- FILES of no bytes
 empty-laid : (shown : ℕ → Contents) (s : ℕ) → shown s ≡ file_sector s → s < 40 → FileAt shown s (extent_at s)
@@ -292,7 +270,7 @@ Counted t t' shown shown' c d = (length (outside (page_sectors c) (page_sectors 
 split-turns : (h : Holds full_store full_table) → Turned full_store full_table h (Register 0) Done split_store
 unfolding holding full-holds split-holds
 split-turns h =
-    puts 40 true full_shown split_shown full_store.slots split_store.slots full_store.free split_store.free full_table h (Register 0) split_table split-turn refl split-holds
+    puts 40 true full_store.disk split_shown full_store.slots split_store.slots full_store.free split_store.free full_table h refl (λ e. e) (Register 0) split_table split-turn refl split-holds
     (took-by full_store split_store full_table full_table split_table split_table full-sized split-sized h full-holds split-holds
     (either-in full_store.free (uses full_table full_catalog (extent_at 26 ∷ extent_at 27 ∷ [])) (uses split_table split_catalog (extent_at 26 ∷ extent_at 27 ∷ [])) refl))
     (freed-by full_store split_store full_table full_table split_table split_table full-sized split-sized h full-holds split-holds (either-in full_store.free (1 ∷ []) split_store.free refl))
@@ -319,7 +297,7 @@ split-turns h =
 longer-turns : (h : Holds split_store split_table) → Turned split_store split_table h (Register 1) Done longer_store
 unfolding holding split-holds longer-holds
 longer-turns h =
-    puts 40 true split_shown longer_shown split_store.slots longer_store.slots split_store.free longer_store.free split_table h (Register 1) longer_table longer-turn refl longer-holds
+    puts 40 true split_store.disk longer_shown split_store.slots longer_store.slots split_store.free longer_store.free split_table h refl (λ e. e) (Register 1) longer_table longer-turn refl longer-holds
     (took-by split_store longer_store split_table split_table longer_table longer_table split-sized longer-sized h split-holds longer-holds
     (either-in split_store.free (uses split_table split_catalog (extent_at 26 ∷ extent_at 27 ∷ [])) (uses longer_table longer_catalog (extent_at 26 ∷ extent_at 27 ∷ [])) refl))
     (freed-by split_store longer_store split_table split_table longer_table longer_table split-sized longer-sized h split-holds longer-holds (either-in split_store.free (1 ∷ 28 ∷ 29 ∷ []) longer_store.free refl))
@@ -346,7 +324,7 @@ longer-turns h =
 joined-turns : (h : Holds split_store split_table) → Turned split_store split_table h (Delete (letter 0)) Done joined_store
 unfolding holding split-holds joined-holds
 joined-turns h =
-    puts 40 true split_shown joined_shown split_store.slots joined_store.slots split_store.free joined_store.free split_table h (Delete (letter 0)) joined_table joined-turn refl joined-holds
+    puts 40 true split_store.disk joined_shown split_store.slots joined_store.slots split_store.free joined_store.free split_table h refl (λ e. e) (Delete (letter 0)) joined_table joined-turn refl joined-holds
     (took-by split_store joined_store split_table split_table joined_table joined_table split-sized joined-sized h split-holds joined-holds
     (either-in split_store.free (uses split_table split_catalog (extent_at 26 ∷ extent_at 27 ∷ [])) (uses joined_table joined_catalog (extent_at 26 ∷ extent_at 27 ∷ [])) refl))
     (freed-by split_store joined_store split_table split_table joined_table joined_table split-sized joined-sized h split-holds joined-holds (either-in split_store.free (1 ∷ 28 ∷ 29 ∷ []) joined_store.free refl))

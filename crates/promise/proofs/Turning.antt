@@ -54,14 +54,15 @@ module _ (m : Meaning) (slots slots' : List (Option Open)) (free free' : List �
       differ e = cc
 
 -- CALLS that put and settle
-module _ (size : ℕ) (calm : Bool) (shown shown' : ℕ → Contents) (slots slots' : List (Option Open)) (free free' : List ℕ) (t : Table) (h : Holds (store slots free (settled_disk size calm shown)) t) where
+module _ (size : ℕ) (calm : Bool) (m : Meaning) (shown' : ℕ → Contents) (slots slots' : List (Option Open)) (free free' : List ℕ) (t : Table) (h : Holds (store slots free m) t) (same : size ≡ m.size)
+  (goes_on : m.calm ≡ true → calm ≡ true) where
   pub puts : (c : Call) (t' : Table) → Turn t c Done t' → t'.ready ≡ true → Holds (store slots' free' (settled_disk size calm shown')) t' →
       ((k : Holds (store slots' free' (settled_disk size calm shown')) t') (s : ℕ) → In s (uses t' k.catalog k.extents) → In s free ⊎ In s (uses t h.catalog h.extents)) →
       ((s : ℕ) → In s free' → In s free ⊎ In s (page_sectors h.catalog)) →
       ((s : ℕ) (o : Open) → closes c ≡ Some s → get_or slots s None ≡ Some o → Head o (t'.files o.slot.file) shown') →
-      ((s : ℕ) (o : Open) → closes c ≢ Some s → (get_or slots s None ≡ Some o) ⊎ (get_or slots' s None ≡ Some o) → Unput (store slots free (settled_disk size calm shown)) (store slots' free' (settled_disk size calm shown')) o.slot.file) →
-      ((k : Holds (store slots' free' (settled_disk size calm shown')) t') → (length (outside (page_sectors h.catalog) (page_sectors k.catalog)) ≡ changes t t'.tree) × DirectoryPut h.catalog shown shown' k.catalog) →
-      Turned (store slots free (settled_disk size calm shown)) t h c Done (store slots' free' (settled_disk size calm shown'))
+      ((s : ℕ) (o : Open) → closes c ≢ Some s → (get_or slots s None ≡ Some o) ⊎ (get_or slots' s None ≡ Some o) → Unput (store slots free m) (store slots' free' (settled_disk size calm shown')) o.slot.file) →
+      ((k : Holds (store slots' free' (settled_disk size calm shown')) t') → (length (outside (page_sectors h.catalog) (page_sectors k.catalog)) ≡ changes t t'.tree) × DirectoryPut h.catalog m.shown shown' k.catalog) →
+      Turned (store slots free m) t h c Done (store slots' free' (settled_disk size calm shown'))
   puts c t' u r k took freed head others directory = record {
     table = t';
     turn = u;
@@ -70,7 +71,7 @@ module _ (size : ℕ) (calm : Bool) (shown shown' : ℕ → Contents) (slots slo
     new = λ n s e f. absurd (not-slotted s f);
     took = took;
     freed = λ _ s i. freed s i;
-    answered = record { lost = (λ e. absurd (differ e), λ e. absurd (differ (sym e))); accepts = λ _ _. refl; calm = λ e. e; size = refl };
+    answered = record { lost = (λ e. absurd (differ e), λ e. absurd (differ (sym e))); accepts = λ _ _. refl; calm = goes_on; size = same };
     unput = λ f e b. absurd (not-no f e);
     settled = λ _ k x l i. only k x i;
     head = λ s o e f _. head s o e f;

@@ -19,7 +19,7 @@ use Rattle.promise.proofs.Slots.{no-slot}
 use Rattle.promise.proofs.StayProper.{turns, formatted-proper}
 use Rattle.promise.proofs.Holding.{catalog-one, extents-one, holds-one}
 use Rattle.promise.proofs.Turning.{took-by, directory-by, quiet, puts}
-use Rattle.promise.proofs.Cards.{root-empty, root-hall, hall-long, hall-laid, hall-bytes, no-bytes, sized}
+use Rattle.promise.proofs.Cards.{root-empty, root-hall, hall-long, hall-laid, hall-bytes, no-bytes, contents-long}
 use Rattle.promise.proofs.Restarts.{format-done, format-lost, format-small, start-done, start-forgets, start-lost, start-small}
 use Rattle.promise.proofs.Stores.{formatted-holds, new-holds, written-holds, registered-holds, closed-holds, deleted-holds}
 
@@ -46,7 +46,7 @@ does v v' u c a z k r s g = record {
     differ e = cc
 
 sized-empty : (second : Contents) → length second ≡ 1024 → Sized sector_count (contents [] second)
-sized-empty second l = sized [] second root-empty.1 l
+sized-empty second l s _ = contents-long [] second root-empty.1 l s
 
 blank-long : length blank ≡ 1024
 unfolding blank
@@ -122,7 +122,7 @@ z₀ : Sized sector_count (contents [] blank)
 z₀ = sized-empty blank blank-long
 
 z₁ : Sized sector_count (contents hall_entry (hall_sector 5 first_bytes))
-z₁ = sized hall_entry (hall_sector 5 first_bytes) root-hall.1 hall-long
+z₁ s _ = contents-long hall_entry (hall_sector 5 first_bytes) root-hall.1 hall-long s
 
 module _ (calm : Bool) (f : ℕ → File) where
   -- NEW
@@ -190,7 +190,7 @@ module _ (calm : Bool) (f : ℕ → File) where
       let b : (f 2).bytes ≡ first_bytes = (open-as (written_store calm) t written_table z₀ h k₀).2 ∙ sym (hall-bytes (seen (written_store calm)) refl) in
       let u : Turn t (Register 0) Done t' = said (Register 0) 0 refl in
       let k = registered-holds calm t'.files (ap length b) b (turns t t' (Register 0) Done h.proper u) in
-      puts sector_count calm (contents [] blank) (contents hall_entry (hall_sector 5 first_bytes)) (hall_open Anonymous 5 first_bytes) (hall_open Registered 5 first_bytes) free_after free_after t h (Register 0) t' u refl k
+      puts sector_count calm (disk_of calm (contents [] blank)) (contents hall_entry (hall_sector 5 first_bytes)) (hall_open Anonymous 5 first_bytes) (hall_open Registered 5 first_bytes) free_after free_after t h refl (λ e. e) (Register 0) t' u refl k
       (took-by (written_store calm) (registered_store calm) t written_table t' t' z₀ z₁ h k₀ k (λ s i. inr i))
       (λ s i. inl i) (hall-head Anonymous t'.files b)
       (λ s o n e. absurd (elim e [ inl a ↦ first-only _ s o n a | inr a ↦ first-only _ s o n a ]))
@@ -208,7 +208,7 @@ module _ (calm : Bool) (f : ℕ → File) where
       let u : Turn t (Close 0) Done t' = said (Close 0) 0 refl in
       let k = closed-holds calm t'.files (ap length b) b (turns t t' (Close 0) Done h.proper u) in
       let shown = contents hall_entry (hall_sector 5 first_bytes) in
-      puts sector_count calm shown shown (hall_open Registered 5 first_bytes) none_open free_after free_after t h (Close 0) t' u refl k
+      puts sector_count calm (disk_of calm shown) shown (hall_open Registered 5 first_bytes) none_open free_after free_after t h refl (λ e. e) (Close 0) t' u refl k
       (took-by (registered_store calm) (closed_store calm) t registered_table t' t' z₁ z₁ h k₀ k (λ s i. inr i))
       (λ s i. inl i) (hall-head Registered t'.files b)
       (λ s o n e. (refl, λ x i. i))
@@ -243,7 +243,7 @@ module _ (calm : Bool) (f : ℕ → File) where
       let shown' = contents [] (hall_sector 5 first_bytes) in
       let u : Turn t (Delete hall) Done t' = said (Delete hall) 0 refl in
       let k = deleted-holds calm t'.files (turns t t' (Delete hall) Done h.proper u) in
-      puts sector_count calm shown shown' none_open none_open free_after free_after t h (Delete hall) t' u refl k
+      puts sector_count calm (disk_of calm shown) shown' none_open none_open free_after free_after t h refl (λ e. e) (Delete hall) t' u refl k
       (took-by (closed_store calm) (deleted_store calm) t closed_table t' t' z₁ (sized-empty (hall_sector 5 first_bytes) hall-long) h k₀ k (λ s i. inr (first s i)))
       (λ s i. inl i) (λ s o e. absurd (none-some s e))
       (λ s o n e. absurd (elim e [ inl a ↦ none-later 8 s o a | inr a ↦ none-later 8 s o a ]))
