@@ -14,3 +14,10 @@ pub mod StayTogether
 pub mod Firsts
 pub mod StartTogether
 pub mod StartProper
+pub mod Holding
+pub mod Cards
+pub mod Turning
+pub mod Stores
+pub mod Witnesses
+pub mod Restarts
+pub mod Splits

@@ -65,7 +65,7 @@ one-entry (x ∷ es) u e d (inl a) (inr j) q = absurd (u.0 (subst (λ (n : ℕ).
 one-entry (x ∷ es) u e d (inr i) (inl b) q = absurd (u.0 (subst (λ (n : ℕ). In n (map file_number es)) (q ∙ ap file_number b) (number_in es e i)))
 one-entry (x ∷ es) u e d (inr i) (inr j) q = one-entry es u.1 e d i j q
 
-started-proper : (size : ℕ) (shown : ℕ → Contents) (c : Catalog) → good_size size ≡ true → Lays size shown c → Proper (started size shown c)
+pub started-proper : (size : ℕ) (shown : ℕ → Contents) (c : Catalog) → good_size size ≡ true → Lays size shown c → Proper (started size shown c)
 started-proper size shown c g l = record {
   eight = refl;
   handles = λ s x e. absurd (no-slot s x e);

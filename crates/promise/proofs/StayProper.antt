@@ -267,7 +267,7 @@ turns t t' c a p u = elim (outcome t u) [
 ]
 
 -- FORMAT
-formatted-proper : (size : ℕ) → good_size size ≡ true → Proper (formatted size)
+pub formatted-proper : (size : ℕ) → good_size size ≡ true → Proper (formatted size)
 formatted-proper size g = record {
   eight = refl;
   handles = λ s x e. absurd (no-slot s x e);

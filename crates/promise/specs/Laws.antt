@@ -1,16 +1,16 @@
 -- What holds of the table, of the ledger, and of the two together.
-use Rattle.std.specs.Prelude.{◌≡◌, ℕ, ◌+◌, ◌<◌, ◌≤◌, true, false, List, [], ◌++◌, map, length, get_or, None, slice_index_or}
+use Rattle.std.specs.Prelude.{◌≡◌, ℕ, ◌+◌, ◌<◌, ◌≤◌, true, false, List, [], ◌++◌, map, length, get_or, Some, None, slice_index_or}
 use Rattle.numbers.specs.Names.{Key}
-use Rattle.tree.specs.Tree.{Entry}
-use Rattle.disk.specs.Meaning.{Contents}
+use Rattle.tree.specs.Tree.{Entry, to_list}
+use Rattle.disk.specs.Meaning.{Contents, In}
 use Rattle.catalog.specs.Catalogs.{Catalog, bytes_of}
 use Rattle.catalog.specs.Laws.{Sized}
 use Rattle.promise.specs.declared.fault.FileFault.{FileFault}
 use Rattle.promise.specs.Faults.{is_three}
-use Rattle.promise.specs.Table.{Table, Call, Answer, No, first, before, behind, plain, waits, Turn, Format, Start, formatted, started, no_slots, Proper}
+use Rattle.promise.specs.Table.{Slot, Table, Call, Answer, No, slot_at, first, before, behind, plain, waits, Turn, Format, Start, formatted, started, no_slots, Proper}
 use Rattle.promise.specs.Ledger.{Ledger, blank, numbered, file_by, follow, wiping, Resolves, restarted, Sane}
-use Rattle.promise.specs.Promise.{name_of, Agrees}
-use Rattle.promise.specs.Calls.{says_three}
+use Rattle.promise.specs.Promise.{View, name_of, Agrees}
+use Rattle.promise.specs.Calls.{Holds, says_three}
 use Rattle.promise.specs.Together.{Together, taken, freed}
 
 -- THE TABLE. Every call keeps it proper, whatever it answers
@@ -57,3 +57,16 @@ pub record StayTogether : Type 0 where
   pub formats : (size : ℕ) → Together (formatted size) blank
   pub turns : (t t' : Table) (l : Ledger) (c : Call) (a : Answer) → Proper t → Sane l → Together t l → Turn t c a t' → Together t' (follow l c a)
   pub starts : (l : Ledger) (size : ℕ) (shown : ℕ → Contents) (c : Catalog) → Sane l → Agrees l size shown c → Together (started size shown c) (restarted l (map (bytes_of shown) c.files))
+
+-- ONE STORE HOLDS ONE TABLE, as far as anything of it can be seen. Left free: the closed length of a file without a name, and files that
+-- neither a name leads to nor a slot holds
+pub record Alike (t t' : Table) : Type 0 where
+  pub ready : t.ready ≡ t'.ready
+  pub tree : t.tree ≡ t'.tree
+  pub slots : t.slots ≡ t'.slots
+  pub free : t.free ≡ t'.free
+  pub named : (e : Entry Key) → In e (to_list t.tree) → ((t.files e.1).bytes ≡ (t'.files e.1).bytes) × ((t.files e.1).closed ≡ (t'.files e.1).closed)
+  pub held : (s : ℕ) (x : Slot) → slot_at t s ≡ Some x → (t.files x.file).bytes ≡ (t'.files x.file).bytes
+
+abbrev pub HoldsOne : Type 0
+HoldsOne = (v : View) (t t' : Table) → Sized v.disk.size v.disk.shown → Holds v t → Holds v t' → Alike t t'

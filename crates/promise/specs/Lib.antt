@@ -7,3 +7,5 @@ pub mod Calls
 pub mod Together
 pub mod Laws
 pub mod Examples
+pub mod Witnesses
+pub mod Splits

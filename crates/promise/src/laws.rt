@@ -1,6 +1,9 @@
 //! What holds of the table, of the ledger, and of the two together, each stated by the contract of a function.
 
-ghost use Rattle.promise.specs.Laws.{StaysProper, Accounts, Refusals, StaysSane, RestartForgets, StayTogether};
+ghost use Rattle.std.specs.Prelude.{Bool};
+ghost use Rattle.promise.specs.Laws.{StaysProper, Accounts, Refusals, StaysSane, RestartForgets, StayTogether, HoldsOne};
+ghost use Rattle.promise.specs.Witnesses.{Witnesses, Refused};
+ghost use Rattle.promise.specs.Splits.{Splits};
 
 /// Every call keeps the table proper, whatever it answers.
 pub fn proper_stands()
@@ -30,4 +33,20 @@ pub fn restart_stands()
 /// Table and ledger go together, through every call, after a format and after an accepted start.
 pub fn together_stand()
     ensures { StayTogether }
+{}
+
+/// A store holds one table, as far as anything of it can be seen.
+pub fn holds_stands()
+    ensures { HoldsOne }
+{}
+
+/// What the calls promise can be kept: calls on a small store, each as it is promised.
+pub fn witnesses_stand()
+    ensures done { (calm : Bool) → Witnesses calm }
+    ensures refused { Refused }
+{}
+
+/// It can be kept where pages are split and joined too.
+pub fn splits_stand()
+    ensures { Splits }
 {}
