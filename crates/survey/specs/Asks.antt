@@ -1,0 +1,155 @@
+-- What the code that asks answers, in the words of the questions: x is what it holds in memory before, x' after, r the answer.
+use Rattle.std.specs.Prelude.{◌≡◌, ℕ, ◌+◌, ◌*◌, ◌-◌, ◌/◌, ◌<◌, ◌≤◌, Bool, true, false, not, ◌&&◌, ◌||◌, List, [], ◌∷◌, length, reverse, sum_by, Some, None, Ok, Err, Option, Result, ◌==◌, nat_le, nat_lt, nat_eq, slice_set}
+use Rattle.disk.specs.declared.fault.Cause.TheVariants.{Gone}
+use Rattle.disk.specs.declared.fault.DiskFault.{DiskFault}
+use Rattle.disk.specs.Meaning.{Contents, Meaning}
+use Rattle.disk.specs.Rules.{Answer, Request, Shows, Fewer, Refuses}
+use Rattle.disk.specs.Rules.Request.{getting}
+use Rattle.numbers.specs.declared.name.Name.{Name}
+use Rattle.numbers.specs.declared.sector.Address.{Address}
+use Rattle.numbers.specs.declared.sector.Sector.{Sector}
+use Rattle.numbers.specs.Names.{Key, good_name, name_field}
+use Rattle.numbers.specs.Lengths.{sectors, good_end, tables}
+use Rattle.numbers.specs.Sectors.{address, address_step}
+use Rattle.layout.specs.declared.header.Header.{Header}
+use Rattle.layout.specs.Words.{word_size, word}
+use Rattle.layout.specs.Headers.{file_mark, mark_at, last_at, used_at, tables_at, near_at, fields_in}
+use Rattle.catalog.specs.declared.fault.LayoutFault.{LayoutFault}
+use Rattle.catalog.specs.declared.fault.LayoutFault.TheVariants.{BadMark, BadAddress, BadLength}
+use Rattle.catalog.specs.declared.fault.VolumeFault.{VolumeFault}
+use Rattle.catalog.specs.declared.fault.VolumeFault.TheVariants.{Disk, Layout}
+use Rattle.catalog.specs.Catalogs.{Row, member, overlaid, range}
+use Rattle.catalog.specs.Questions.{Sofar, Step, ask, ◌▸◌, done, each, at, link, ask_table}
+use Rattle.survey.specs.declared.findings.Findings.{Findings}
+use Rattle.survey.specs.declared.row.FileRow.{FileRow}
+use Rattle.survey.specs.Lines.{lines, is_met, met_count}
+
+-- what the questions are about: the size of a disk, the level on which leaves belong, and what is shown
+pub record World : Type 0 where
+  pub size : ℕ
+  pub deep : ℕ
+  pub shown : ℕ → Contents
+
+-- what is held in memory: the findings, and the rows
+pub record Memory : Type 0 where
+  pub found : Findings
+  pub rows : List FileRow
+
+-- the last name, or none yet
+abbrev pub LastIs : Option Name → Key → Type 0
+LastIs None k = k ≡ []
+LastIs (Some n) k = (good_name k ≡ true) × (n.bytes ≡ name_field k)
+
+-- the memory x stands for s, where the rows were t at first
+pub record Stands (w : World) (t : List FileRow) (x : Memory) (s : Sofar) : Type 0 where
+  pub size : x.found.size ≡ w.size
+  pub deep : x.found.leaf_level ≡ w.deep
+  pub marks : (n : ℕ) → is_met x.found.map.met n ≡ member n s.met
+  pub name : LastIs x.found.last s.last
+  pub names : x.found.names ≡ length s.listed
+  pub sectors : x.found.file_sectors ≡ sum_by (λ (r : Row). sectors r.long) s.listed
+  pub rows : x.rows ≡ overlaid (lines (reverse s.listed)) t
+
+-- an answer without its value
+abbrev pub Done : Type 0
+Done = Result Unit VolumeFault
+
+abbrev pub yes : Done
+yes = Ok tt
+
+abbrev pub told : {T : Type 0} → Result T VolumeFault → Done
+told (Ok v) = Ok tt
+told (Err e) = Err e
+
+abbrev pub told_layout : {T : Type 0} → Result T LayoutFault → Done
+told_layout (Ok v) = Ok tt
+told_layout (Err e) = Err (Layout e)
+
+-- the questions come to y; the answer is that, or a disk's fault
+abbrev pub Agrees : World → List FileRow → Done → Memory → Result Sofar LayoutFault → Type 0
+Agrees w t (Ok u) x (Ok s) = Stands w t x s
+Agrees w t (Ok u) x (Err e) = ⊥
+Agrees w t (Err (Layout e)) x y = y ≡ Err e
+Agrees w t (Err (Disk f)) x y = f.cause ≡ Gone
+
+-- whatever was found before, the questions f come to what r and x' say
+pub record Asked (w : World) (x : Memory) (f : Step) (r : Done) (x' : Memory) : Type 0 where
+  pub agrees : (t : List FileRow) (s : Sofar) → Stands w t x s → Agrees w t r x' (f s)
+
+-- at least as many sectors more are met as names are found
+abbrev pub Roomy : Findings → Findings → Type 0
+Roomy k k' = k'.names + met_count k.map.met ≤ k.names + met_count k'.map.met
+
+-- the questions of a world, asked in memory alone
+pub record Tells (x : Memory) (f : World → Step) (r : Done) (x' : Memory) : Type 0 where
+  pub room : Roomy x.found x'.found
+  pub asked : (w : World) → Asked w x (f w) r x'
+
+-- the disk shows that world
+pub record IsShown (m : Meaning) (w : World) : Type 0 where
+  pub size : m.size ≡ w.size
+  pub shows : (n : ℕ) → n < m.size → m.shown n ≡ w.shown n
+
+-- what only reads leave of a disk
+pub record ReadOnly (m m' : Meaning) : Type 0 where
+  pub size : m'.size ≡ m.size
+  pub shows : Shows m m'
+  pub fewer : Fewer m m'
+  pub calm : m.calm ≡ true → m'.calm ≡ true
+
+module _ {D : Type 0} (meaning : D → Meaning) (does : D → Request → Answer → D → Type 0) where
+  -- a get of this disk answered f and left it so
+  pub record Faults (d : D) (f : DiskFault) (d' : D) : Type 0 where
+    pub from : D
+    pub sector : ℕ
+    pub asked : does from (getting sector) (Err f) d'
+    pub why : Refuses f.cause (meaning from) sector f (meaning d')
+    pub not_calm : f.cause ≡ Gone → (meaning d).calm ≡ true → (meaning d).live ≡ true → ⊥
+
+  -- a disk that was live is so after any other answer
+  abbrev pub Leaves : D → Done → D → Type 0
+  Leaves d (Ok u) d' = (meaning d).live ≡ true → (meaning d').live ≡ true
+  Leaves d (Err (Layout e)) d' = (meaning d).live ≡ true → (meaning d').live ≡ true
+  Leaves d (Err (Disk f)) d' = Faults d f d'
+
+  -- the questions of a world, asked of a disk that shows it
+  pub record Surveyed (d : D) (x : Memory) (f : World → Step) (r : Done) (d' : D) (x' : Memory) : Type 0 where
+    pub read : ReadOnly (meaning d) (meaning d')
+    pub leaves : Leaves d r d'
+    pub room : Roomy x.found x'.found
+    pub asked : (w : World) → IsShown (meaning d) w → Asked w x (f w) r x'
+
+-- PARTS of the questions. An address, whatever it leads to
+abbrev pub address_asks : Bool → ℕ → ℕ → World → Step
+address_asks due holder a w = link w.size w.shown due holder a (λ n. done)
+
+-- where it led
+abbrev pub Led : Bool → ℕ → Findings → Option Sector → Type 0
+Led due a k None = due ≡ false
+Led due a k (Some n) = (due ≡ true) × (n.0 ≡ a / address_step) × (n.0 < k.size)
+
+-- of a first sector that holds c: its mark, its length, its own address
+unfoldable pub head_asks : Contents → ℕ → Step
+head_asks c s =
+    ask (word c mark_at == file_mark) (BadMark (at s)) ▸
+    ask (good_end (word c last_at) (word c used_at)) (BadLength (at s)) ▸
+    ask (word c near_at == address s) (BadAddress (at s))
+
+-- the header that c holds
+pub record HeaderOf (c : Contents) (h : Header) : Type 0 where
+  pub fields : h ≡ fields_in c
+  pub end : good_end (word c last_at) (word c used_at) ≡ true
+
+-- sector address i, and extension address k with its table
+unfoldable pub near_turn : Contents → ℕ → World → ℕ → Step
+near_turn c s w i = link w.size w.shown (nat_le i (word c last_at)) s (word c (near_at + word_size * i)) (λ n. done)
+
+unfoldable pub table_turn : Contents → ℕ → World → ℕ → Step
+table_turn c s w k =
+    link w.size w.shown (nat_lt k (tables (word c last_at))) s (word c (tables_at + word_size * k)) (ask_table w.size w.shown (word c last_at) k)
+
+unfoldable pub near_asks : Contents → ℕ → World → Step
+near_asks c s w = each (near_turn c s w) (range 1 63)
+
+unfoldable pub table_asks : Contents → ℕ → World → Step
+table_asks c s w = each (table_turn c s w) (range 0 12)
