@@ -1,3 +1,4 @@
 pub mod Steps
 pub mod Tellings
 pub mod Listing
+pub mod Files

@@ -47,6 +47,10 @@ onward-onward : (f g : Step) (y : Result Sofar LayoutFault) → onward g (onward
 onward-onward f g (Ok s) = refl
 onward-onward f g (Err e) = refl
 
+-- three one after another, in either grouping
+pub grouped : (f g h : Step) → f ▸ (g ▸ h) ≡ (f ▸ g) ▸ h
+grouped f g h = fun_ext (λ s. sym (onward-onward g h (f s)))
+
 pub then-done : (f : Step) → f ▸ done ≡ f
 then-done f = fun_ext (λ s. onward-done (f s))
 

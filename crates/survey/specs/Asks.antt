@@ -1,5 +1,5 @@
 -- What the code that asks answers, in the words of the questions: x is what it holds in memory before, x' after, r the answer.
-use Rattle.std.specs.Prelude.{◌≡◌, ℕ, ◌+◌, ◌*◌, ◌-◌, ◌/◌, ◌<◌, ◌≤◌, Bool, true, false, not, ◌&&◌, ◌||◌, List, [], ◌∷◌, length, reverse, sum_by, Some, None, Ok, Err, Option, Result, ◌==◌, nat_le, nat_lt, nat_eq, slice_set}
+use Rattle.std.specs.Prelude.{◌≡◌, ℕ, ◌+◌, ◌*◌, ◌-◌, ◌/◌, ◌<◌, ◌≤◌, Bool, true, false, cond, not, ◌&&◌, ◌||◌, List, [], ◌∷◌, length, reverse, sum_by, Some, None, Ok, Err, Option, Result, ◌==◌, nat_le, nat_lt, nat_eq, slice_set}
 use Rattle.disk.specs.declared.fault.Cause.TheVariants.{Gone}
 use Rattle.disk.specs.declared.fault.DiskFault.{DiskFault}
 use Rattle.disk.specs.Meaning.{Contents, Meaning}
@@ -9,9 +9,11 @@ use Rattle.numbers.specs.declared.name.Name.{Name}
 use Rattle.numbers.specs.declared.sector.Address.{Address}
 use Rattle.numbers.specs.declared.sector.Sector.{Sector}
 use Rattle.numbers.specs.Names.{Key, good_name, name_field}
-use Rattle.numbers.specs.Lengths.{sectors, good_end, tables}
+use Rattle.numbers.specs.Lengths.{sectors, near_sectors, table_sectors, good_end, tables}
 use Rattle.numbers.specs.Sectors.{address, address_step}
 use Rattle.layout.specs.declared.header.Header.{Header}
+use Rattle.layout.specs.declared.header.HeaderFault.{HeaderFault}
+use Rattle.layout.specs.declared.header.HeaderFault.TheVariants.{Mark, End, Link}
 use Rattle.layout.specs.Words.{word_size, word}
 use Rattle.layout.specs.Headers.{file_mark, mark_at, last_at, used_at, tables_at, near_at, fields_in}
 use Rattle.catalog.specs.declared.fault.LayoutFault.{LayoutFault}
@@ -128,12 +130,22 @@ abbrev pub Led : Bool → ℕ → Findings → Option Sector → Type 0
 Led due a k None = due ≡ false
 Led due a k (Some n) = (due ≡ true) × (n.0 ≡ a / address_step) × (n.0 < k.size)
 
+-- entry j of table k, in sector t, which holds c, of a file whose last file sector is a
+unfoldable pub entry_turn : Contents → ℕ → ℕ → ℕ → World → ℕ → Step
+entry_turn c a k t w j = cond (nat_le (near_sectors + table_sectors * k + j) a) (link w.size w.shown true t (word c (word_size * j)) (λ n. done)) done
+
 -- of a first sector that holds c: its mark, its length, its own address
 unfoldable pub head_asks : Contents → ℕ → Step
 head_asks c s =
     ask (word c mark_at == file_mark) (BadMark (at s)) ▸
     ask (good_end (word c last_at) (word c used_at)) (BadLength (at s)) ▸
     ask (word c near_at == address s) (BadAddress (at s))
+
+-- what a first sector that is not read has wrong; `read` never answers Link
+abbrev pub head_fault : HeaderFault → Sector → LayoutFault
+head_fault Mark s = BadMark s
+head_fault End s = BadLength s
+head_fault Link s = BadAddress s
 
 -- the header that c holds
 pub record HeaderOf (c : Contents) (h : Header) : Type 0 where
