@@ -2,5 +2,6 @@ pub mod Faults
 pub mod Catalogs
 pub mod Lays
 pub mod Questions
-pub mod Laws
 pub mod Written
+pub mod Laws
+pub mod Examples
