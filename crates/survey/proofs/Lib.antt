@@ -2,3 +2,5 @@ pub mod Steps
 pub mod Tellings
 pub mod Listing
 pub mod Files
+pub mod Levels
+pub mod Pages

@@ -59,7 +59,7 @@ t_broke f a i n h l p q =
 
 -- AN ADDRESS, and what it leads to
 module _ (w : World) (h a : ℕ) (f : ℕ → Step) where
-  link-some : {x x1 x2 : Memory} {r : Done} (due : Bool) → due ≡ true → Asked w x (link w.size w.shown due h a (λ n. done)) yes x1 → Asked w x1 (f (a / address_step)) r x2 → Asked w x (link w.size w.shown due h a f) r x2
+  pub link-some : {x x1 x2 : Memory} {r : Done} (due : Bool) → due ≡ true → Asked w x (link w.size w.shown due h a (λ n. done)) yes x1 → Asked w x1 (f (a / address_step)) r x2 → Asked w x (link w.size w.shown due h a f) r x2
   link-some true e p q = then _ (f (a / address_step)) (said (then-done _) p) q
   link-some false e p q = cc
 
@@ -95,13 +95,13 @@ pub shown-then : {m m1 : Meaning} {w : World} → ReadOnly m m1 → IsShown m w 
 shown-then {m} {m1} {w} p s =
     record { size = p.size ∙ s.size; shows = λ n l. let k : n < m.size = subst (λ (z : ℕ). n < z) p.size l in p.shows n k ∙ s.shows n k }
 
-read-got : {m m' : Meaning} {n : ℕ} {old new : Contents} {r : Answer} → Gets m n old r m' new → ReadOnly m m'
+pub read-got : {m m' : Meaning} {n : ℕ} {old new : Contents} {r : Answer} → Gets m n old r m' new → ReadOnly m m'
 read-got g = record { size = g.size; shows = g.shows; fewer = g.fewer; calm = g.calm.stays }
 
 pub got-shown : {m m' : Meaning} {n t : ℕ} {old new : Contents} {w : World} → Gets m n old (Ok tt) m' new → IsShown m w → n ≡ t → new ≡ w.shown t
 got-shown {n = n} {w = w} g s e = g.answer.filled ∙ s.shows n g.answer.inside ∙ ap w.shown e
 
-gone-inside : (c : Cause) (m m' : Meaning) (n : ℕ) (f : DiskFault) → Refuses c m n f m' → n < m.size → c ≡ Gone
+pub gone-inside : (c : Cause) (m m' : Meaning) (n : ℕ) (f : DiskFault) → Refuses c m n f m' → n < m.size → c ≡ Gone
 gone-inside Outside m m' n f p l = let b = p.beyond in absurd (omega arith)
 gone-inside Gone m m' n f p l = refl
 
@@ -115,7 +115,7 @@ refused {m} {m'} {n} {old} {new} {f} g e c l =
     let o = g.calm.accepts c (l, i) in cc
 
 module _ {D : Type 0} (meaning : D → Meaning) (does : D → Request → Answer → D → Type 0) where
-  leaves-then : {d d1 : D} (d2 : D) (r : Done) → ReadOnly (meaning d) (meaning d1) → ((meaning d).live ≡ true → (meaning d1).live ≡ true) → Leaves meaning does d1 r d2 → Leaves meaning does d r d2
+  pub leaves-then : {d d1 : D} (d2 : D) (r : Done) → ReadOnly (meaning d) (meaning d1) → ((meaning d).live ≡ true → (meaning d1).live ≡ true) → Leaves meaning does d1 r d2 → Leaves meaning does d r d2
   leaves-then d2 (Ok u) k p q = λ l. q (p l)
   leaves-then d2 (Err (Layout e)) k p q = λ l. q (p l)
   leaves-then d2 (Err (Disk f)) k p q = record { from = q.from; sector = q.sector; asked = q.asked; why = q.why; not_calm = λ g c l. q.not_calm g (k.calm c) (p l) }
@@ -206,7 +206,7 @@ module _ {D : Type 0} {meaning : D → Meaning} {does : D → Request → Answer
         asked = λ w s. q.asked w (shown-then (read-got g) s);
       }
 
-  faults : {d d1 : D} {n : ℕ} {old new : Contents} {f : DiskFault} → Gets (meaning d) n old (Err f) (meaning d1) new → does d (getting n) (Err f) d1 → Faults meaning does d f d1
+  pub faults : {d d1 : D} {n : ℕ} {old new : Contents} {f : DiskFault} → Gets (meaning d) n old (Err f) (meaning d1) new → does d (getting n) (Err f) d1 → Faults meaning does d f d1
   faults {d} {d1} {n} {f = f} g a = record { from = d; sector = n; asked = a; why = g.answer.why; not_calm = refused g }
 
   -- or the disk does not answer

@@ -1,5 +1,5 @@
 -- What the code that asks answers, in the words of the questions: x is what it holds in memory before, x' after, r the answer.
-use Rattle.std.specs.Prelude.{◌≡◌, ℕ, ◌+◌, ◌*◌, ◌-◌, ◌/◌, ◌<◌, ◌≤◌, Bool, true, false, cond, not, ◌&&◌, ◌||◌, List, [], ◌∷◌, length, reverse, sum_by, Some, None, Ok, Err, Option, Result, ◌==◌, nat_le, nat_lt, nat_eq, slice_set}
+use Rattle.std.specs.Prelude.{◌≡◌, ℕ, suc, ◌+◌, ◌*◌, ◌-◌, ◌/◌, ◌<◌, ◌≤◌, Bool, true, false, cond, not, ◌&&◌, ◌||◌, List, [], ◌∷◌, length, reverse, sum_by, Some, None, Ok, Err, Option, Result, ◌==◌, nat_le, nat_lt, nat_eq, slice_set}
 use Rattle.disk.specs.declared.fault.Cause.TheVariants.{Gone}
 use Rattle.disk.specs.declared.fault.DiskFault.{DiskFault}
 use Rattle.disk.specs.Meaning.{Contents, Meaning}
@@ -8,20 +8,25 @@ use Rattle.disk.specs.Rules.Request.{getting}
 use Rattle.numbers.specs.declared.name.Name.{Name}
 use Rattle.numbers.specs.declared.sector.Address.{Address}
 use Rattle.numbers.specs.declared.sector.Sector.{Sector}
-use Rattle.numbers.specs.Names.{Key, good_name, name_field}
+use Rattle.numbers.specs.Names.{Key, name_size, every, good_name, name_field, name_in}
 use Rattle.numbers.specs.Lengths.{sectors, near_sectors, table_sectors, good_end, tables}
 use Rattle.numbers.specs.Sectors.{address, address_step}
 use Rattle.layout.specs.declared.header.Header.{Header}
 use Rattle.layout.specs.declared.header.HeaderFault.{HeaderFault}
 use Rattle.layout.specs.declared.header.HeaderFault.TheVariants.{Mark, End, Link}
-use Rattle.layout.specs.Words.{word_size, word}
+use Rattle.layout.specs.declared.entry.PageHead.{PageHead}
+use Rattle.layout.specs.Words.{word_size, word, part}
+use Rattle.layout.specs.Entries.{page_mark, page_mark_at, count_at, first_at, zeros_at, entries_at, most_entries, entry_at, file_at, below_at, count_fits}
 use Rattle.layout.specs.Headers.{file_mark, mark_at, last_at, used_at, tables_at, near_at, fields_in}
 use Rattle.catalog.specs.declared.fault.LayoutFault.{LayoutFault}
-use Rattle.catalog.specs.declared.fault.LayoutFault.TheVariants.{BadMark, BadAddress, BadLength}
+use Rattle.catalog.specs.declared.fault.LayoutFault.TheVariants.{BadMark, BadCount, BadAddress, BadLevel, BadLength}
 use Rattle.catalog.specs.declared.fault.VolumeFault.{VolumeFault}
 use Rattle.catalog.specs.declared.fault.VolumeFault.TheVariants.{Disk, Layout}
 use Rattle.catalog.specs.Catalogs.{Row, member, overlaid, range}
-use Rattle.catalog.specs.Questions.{Sofar, Step, ask, ◌▸◌, done, each, at, link, ask_table}
+use Rattle.catalog.specs.Questions.{Sofar, Step, ask, ◌▸◌, done, each, at, link, rise, kind_at, ask_table, ask_entry, ask_page}
+use Rattle.catalog.specs.Lays.{root_sector}
+use Rattle.catalog.specs.Laws.{last_level}
+use Rattle.tree.specs.Tree.{most_levels}
 use Rattle.survey.specs.declared.findings.Findings.{Findings}
 use Rattle.survey.specs.declared.row.FileRow.{FileRow}
 use Rattle.survey.specs.Lines.{lines, is_met, met_count}
@@ -165,3 +170,42 @@ near_asks c s w = each (near_turn c s w) (range 1 63)
 
 unfoldable pub table_asks : Contents → ℕ → World → Step
 table_asks c s w = each (table_turn c s w) (range 0 12)
+
+-- of a page that holds c, on a level: its mark and zeros, its number of entries, its level
+unfoldable pub top_asks : Contents → ℕ → ℕ → ℕ → Step
+top_asks c deep level s =
+    let leaf = nat_eq (word c first_at) 0 in
+    ask (word c page_mark_at == page_mark && every (λ b. nat_eq b 0) (part c zeros_at (entries_at - zeros_at))) (BadMark (at s)) ▸
+    ask (count_fits (kind_at level) leaf (word c count_at)) (BadCount (at s)) ▸
+    ask (nat_le level most_levels && (not leaf || level == deep)) (BadLevel (at s))
+
+-- the head that c holds, of a page that passed these
+pub record TopOf (c : Contents) (level : ℕ) (h : PageHead) : Type 0 where
+  pub count : h.count ≡ word c count_at
+  pub first : h.first.0 ≡ word c first_at
+  pub few : h.count ≤ most_entries
+  pub high : level ≤ most_levels
+
+-- an entry's name and file; the page that an address leads to below one on that level
+unfoldable pub entry_asks : ℕ → List ℕ → ℕ → World → Step
+entry_asks s f a w = rise s f ▸ link w.size w.shown true s a (ask_entry w.size w.shown (name_in f))
+
+unfoldable pub below_asks : ℕ → Bool → ℕ → ℕ → World → Step
+below_asks level due s a w = link w.size w.shown due s a (ask_page w.size w.shown w.deep (5 - level) (suc level))
+
+-- entry i
+unfoldable pub page_turn : Contents → ℕ → ℕ → World → ℕ → Step
+page_turn c level s w i =
+    entry_asks s (part c (entry_at i) name_size) (word c (entry_at i + file_at)) w ▸
+    below_asks level (not (nat_eq (word c first_at) 0)) s (word c (entry_at i + below_at)) w
+
+-- the answer of a look for the first leaf's level, on a disk that meant m before
+abbrev pub LevelIs : Meaning → Result ℕ VolumeFault → Type 0
+LevelIs m (Ok level) = (level ≡ last_level m.size m.shown most_levels 1 root_sector) × (m.live ≡ true)
+LevelIs m (Err (Layout e)) = ⊥
+LevelIs m (Err (Disk f)) = f.cause ≡ Gone
+
+pub record Levelled {D : Type 0} (meaning : D → Meaning) (does : D → Request → Answer → D → Type 0) (d : D) (r : Result ℕ VolumeFault) (d' : D) : Type 0 where
+  pub read : ReadOnly (meaning d) (meaning d')
+  pub leaves : Leaves meaning does d (told r) d'
+  pub level : LevelIs (meaning d) r

@@ -48,7 +48,7 @@ impl Findings {
     pub fn follow(&mut self, holder: Sector, address: Address) -> Result<Sector, LayoutFault>
         ensures told { (rows : List FileRow) → Tells (record { found = self.old; rows = rows }) (address_asks true holder.0 address.0) (told_layout result) (record { found = self.new; rows = rows }) }
         ensures led { IfOk result (λ n. Led true address.0 self.new (Some n)) }
-        ensures room { OnOk result (self.new.names < met_count self.new.map.met) }
+        ensures more { OnOk result ((self.new.names ≡ self.old.names) × (met_count self.new.map.met ≡ met_count self.old.map.met + 1)) }
     {
         let Some(sector) = address.sector(self.size) else {
             return Err(LayoutFault::BadAddress(holder));
