@@ -14,7 +14,9 @@ use Rattle.catalog.specs.declared.fault.VolumeFault.TheVariants.{Disk}
 use Rattle.catalog.specs.Laws.{last_level}
 use Rattle.catalog.specs.Lays.{root_sector}
 use Rattle.tree.specs.Tree.{most_levels}
-use Rattle.survey.specs.Asks.{ReadOnly, Leaves, Levelled, LevelIs, Faults, told}
+use Rattle.survey.specs.Reads.{Reads, ReadOnly}
+use Rattle.survey.specs.Reads.Reads.{none, more}
+use Rattle.survey.specs.Asks.{Leaves, Levelled, LevelIs, Faults, told}
 use Rattle.survey.proofs.Tellings.{read-same, read-then, read-got, leaves-then, faults, gone-inside}
 
 -- so far down, on level and at page s: m was the disk before, m' it is now
@@ -82,19 +84,21 @@ down-last {m} {m'} {level} {s} h e =
     (sym e ∙ sym (h.same ∙ ap (λ (z : ℕ). last_level m.size m.shown z level s) i), h.was (h.on (omega arith)))
 
 module _ {D : Type 0} {meaning : D → Meaning} {does : D → Request → Answer → D → Type 0} where
-  pub levelled : {d d1 : D} {level s l : ℕ} → Down (meaning d) (meaning d1) level s → (l ≡ last_level (meaning d).size (meaning d).shown most_levels 1 root_sector) × ((meaning d).live ≡ true) → Levelled meaning does d (Ok l) d1
-  levelled h p = record { read = h.read; leaves = h.live; level = p }
+  pub levelled : {d d1 : D} {level s l : ℕ} → Reads does d d1 → Down (meaning d) (meaning d1) level s → (l ≡ last_level (meaning d).size (meaning d).shown most_levels 1 root_sector) × ((meaning d).live ≡ true) → Levelled meaning does d (Ok l) d1
+  levelled z h p = record { reads = z; read = h.read; leaves = h.live; level = p }
 
-  pub levelled-read : {d d2 : D} {level s n l : ℕ} {old new : Contents} (d1 : D) → Down (meaning d) (meaning d1) level s → Gets (meaning d1) n old (Ok tt) (meaning d2) new → (l ≡ last_level (meaning d).size (meaning d).shown most_levels 1 root_sector) × ((meaning d).live ≡ true) → Levelled meaning does d (Ok l) d2
-  levelled-read d1 h g p = record { read = read-then h.read (read-got g); leaves = λ _. g.answer.live; level = p }
+  pub levelled-read : {d d1 d2 : D} {level s n l : ℕ} {old new : Contents} → Reads does d d1 → Down (meaning d) (meaning d1) level s → Gets (meaning d1) n old (Ok tt) (meaning d2) new → does d1 (getting n) (Ok tt) d2 →
+      (l ≡ last_level (meaning d).size (meaning d).shown most_levels 1 root_sector) × ((meaning d).live ≡ true) → Levelled meaning does d (Ok l) d2
+  levelled-read z h g a p = record { reads = more z a; read = read-then h.read (read-got g); leaves = λ _. g.answer.live; level = p }
 
-  pub unlevelled : {d d2 : D} {level s n : ℕ} {old new : Contents} {f : DiskFault} (d1 : D) → Down (meaning d) (meaning d1) level s → Gets (meaning d1) n old (Err f) (meaning d2) new → does d1 (getting n) (Err f) d2 → n ≡ s → Levelled meaning does d (Err (Disk f)) d2
-  unlevelled {d} {d2} {n = n} {f = f} d1 h g a e =
+  pub unlevelled : {d d1 d2 : D} {level s n : ℕ} {old new : Contents} {f : DiskFault} → Reads does d d1 → Down (meaning d) (meaning d1) level s → Gets (meaning d1) n old (Err f) (meaning d2) new → does d1 (getting n) (Err f) d2 → n ≡ s → Levelled meaning does d (Err (Disk f)) d2
+  unlevelled {d} {d1} {d2} {n = n} {f = f} y h g a e =
       let i = h.inside in
       let z = h.read.size in
       record {
+        reads = more y a;
         read = read-then h.read (read-got g);
-        leaves = leaves-then meaning does d2 (Err (Disk f)) h.read h.live (faults g a);
+        leaves = leaves-then meaning does d2 (Err (Disk f)) y h.read h.live (faults g a);
         level = gone-inside f.cause (meaning d1) (meaning d2) n f g.answer.why (omega arith);
       }
 

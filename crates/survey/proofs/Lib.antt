@@ -4,3 +4,4 @@ pub mod Listing
 pub mod Files
 pub mod Levels
 pub mod Pages
+pub mod Counting

@@ -3,6 +3,7 @@ use Rattle.std.proofs.Common.{◌≡◌, zero-add, ℕ, zero, suc, ◌+◌, ◌-
 use Rattle.std.proofs.lemmas.Bool.{cond-true, cond-false, and_parts, leb-true}
 use Rattle.disk.specs.Meaning.{Contents, Meaning}
 use Rattle.disk.specs.Rules.{Answer, Request, Gets}
+use Rattle.disk.specs.Rules.Request.{getting}
 use Rattle.numbers.specs.declared.sector.Sector.{Sector}
 use Rattle.numbers.specs.Lengths.{length_of}
 use Rattle.numbers.specs.Sectors.{address_step}
@@ -125,6 +126,7 @@ module _ {D : Type 0} {meaning : D → Meaning} {does : D → Request → Answer
       let j = r.room in
       let k : met_count x4.found.map.met ≡ met_count x3.found.map.met = ap met_count m in
       record {
+        reads = r.reads;
         read = r.read;
         leaves = r.leaves;
         room = omega (arith, more.0, more.1);
@@ -201,27 +203,27 @@ module _ {D : Type 0} {meaning : D → Meaning} {does : D → Request → Answer
   below-said {due' = due'} {a = a} level s f j q = s_said (λ w y. ap (λ (z : Bool). below_asks level z s a w) f ∙ ap (λ (z : ℕ). below_asks level due' s z w) j) refl q
 
   -- the page was read, and its top is refused
-  pub page-no-top : {d d1 : D} {x : Memory} {n : ℕ} {old b : Contents} {e : LayoutFault} (level s : ℕ) → Gets (meaning d) n old (Ok tt) (meaning d1) b → n ≡ s → level ≤ 5 → Tells x (λ w. top_asks b x.found.leaf_level level s) (Err (Layout e)) x →
+  pub page-no-top : {d d1 : D} {x : Memory} {n : ℕ} {old b : Contents} {e : LayoutFault} (level s : ℕ) → Gets (meaning d) n old (Ok tt) (meaning d1) b → does d (getting n) (Ok tt) d1 → n ≡ s → level ≤ 5 → Tells x (λ w. top_asks b x.found.leaf_level level s) (Err (Layout e)) x →
       Surveyed meaning does d x (λ w. ask_page w.size w.shown w.deep (6 - level) level s) (Err (Layout e)) d1 x
-  page-no-top {b = b} {e = e} level s g i h p =
+  page-no-top {b = b} {e = e} level s g z i h p =
       s_said (λ w y. page-is b level s (word b count_at) w h (got-shown g y i) refl) refl
-      (s_read g (s_stop (λ w. top_asks b w.deep level s ▸ first b level s 0 w) (rest b level s (word b count_at)) (s_stop (λ w. top_asks b w.deep level s) (first b level s 0) (still {T = Unit {0}} _ (Err e) (deep-is (λ z. top_asks b z level s) p)))))
+      (s_read g z (s_stop (λ w. top_asks b w.deep level s ▸ first b level s 0 w) (rest b level s (word b count_at)) (s_stop (λ w. top_asks b w.deep level s) (first b level s 0) (still {T = Unit {0}} _ (Err e) (deep-is (λ z. top_asks b z level s) p)))))
 
   -- or what hangs below its first address
-  pub page-no-first : {d d1 d2 : D} {x x2 : Memory} {n : ℕ} {old b : Contents} {v : VolumeFault} {due : Bool} {a : ℕ} (level s : ℕ) → Gets (meaning d) n old (Ok tt) (meaning d1) b → n ≡ s → level ≤ 5 → Tells x (λ w. top_asks b x.found.leaf_level level s) yes x →
+  pub page-no-first : {d d1 d2 : D} {x x2 : Memory} {n : ℕ} {old b : Contents} {v : VolumeFault} {due : Bool} {a : ℕ} (level s : ℕ) → Gets (meaning d) n old (Ok tt) (meaning d1) b → does d (getting n) (Ok tt) d1 → n ≡ s → level ≤ 5 → Tells x (λ w. top_asks b x.found.leaf_level level s) yes x →
       due ≡ not (eqb (word b first_at) 0) → a ≡ word b first_at → Surveyed meaning does d1 x (below_asks level due s a) (Err v) d2 x2 → Surveyed meaning does d x (λ w. ask_page w.size w.shown w.deep (6 - level) level s) (Err v) d2 x2
-  page-no-first {b = b} {a = a} level s g i h p f j q =
+  page-no-first {b = b} level s g z i h p f j q =
       s_said (λ w y. page-is b level s (word b count_at) w h (got-shown g y i) refl) refl
-      (s_read g (s_stop (λ w. top_asks b w.deep level s ▸ first b level s 0 w) (rest b level s (word b count_at))
+      (s_read g z (s_stop (λ w. top_asks b w.deep level s ▸ first b level s 0 w) (rest b level s (word b count_at))
       (s_then (λ w. top_asks b w.deep level s) (first b level s 0) (still {T = Unit {0}} _ (Ok tt) (deep-is (λ z. top_asks b z level s) p)) (below-said level s f j q))))
 
   -- or its entries are asked, n of them
-  pub page-all : {d d1 d2 d3 : D} {x x2 x3 : Memory} {n m : ℕ} {old b : Contents} {r : Done} {due : Bool} {a : ℕ} (level s : ℕ) → Gets (meaning d) n old (Ok tt) (meaning d1) b → n ≡ s → level ≤ 5 → Tells x (λ w. top_asks b x.found.leaf_level level s) yes x →
+  pub page-all : {d d1 d2 d3 : D} {x x2 x3 : Memory} {n m : ℕ} {old b : Contents} {r : Done} {due : Bool} {a : ℕ} (level s : ℕ) → Gets (meaning d) n old (Ok tt) (meaning d1) b → does d (getting n) (Ok tt) d1 → n ≡ s → level ≤ 5 → Tells x (λ w. top_asks b x.found.leaf_level level s) yes x →
       due ≡ not (eqb (word b first_at) 0) → a ≡ word b first_at → Surveyed meaning does d1 x (below_asks level due s a) yes d2 x2 → m ≡ word b count_at → Surveyed meaning does d2 x2 (λ w. run (page_turn b level s w) 0 m) r d3 x3 →
       Surveyed meaning does d x (λ w. ask_page w.size w.shown w.deep (6 - level) level s) r d3 x3
-  page-all {m = m} {b = b} level s g i h p f j q k l =
+  page-all {m = m} {b = b} level s g z i h p f j q k l =
       s_said (λ w y. page-is b level s m w h (got-shown g y i) k) refl
-      (s_read g (s_then (λ w. top_asks b w.deep level s ▸ first b level s m w) (rest b level s m)
+      (s_read g z (s_then (λ w. top_asks b w.deep level s ▸ first b level s m w) (rest b level s m)
       (s_then (λ w. top_asks b w.deep level s) (first b level s m) (still {T = Unit {0}} _ (Ok tt) (deep-is (λ z. top_asks b z level s) p)) (below-said level s f j q)) l))
 
   -- a turn of the entries: entry i, and what hangs below it

@@ -15,7 +15,9 @@ use Rattle.catalog.specs.declared.fault.VolumeFault.TheVariants.{Disk, Layout}
 use Rattle.catalog.specs.Questions.{Step, ◌▸◌, done, link}
 use Rattle.survey.specs.declared.findings.Findings.{Findings}
 use Rattle.survey.specs.declared.row.FileRow.{FileRow}
-use Rattle.survey.specs.Asks.{World, Memory, Stands, Done, yes, told, told_layout, Agrees, Asked, Roomy, Tells, IsShown, ReadOnly, Faults, Leaves, Surveyed, address_asks, Led}
+use Rattle.survey.specs.Reads.{Reads, ReadOnly}
+use Rattle.survey.specs.Reads.Reads.{none, more as one-more}
+use Rattle.survey.specs.Asks.{World, Memory, Stands, Done, yes, told, told_layout, Agrees, Asked, Roomy, Tells, IsShown, Faults, Leaves, Surveyed, address_asks, Led}
 use Rattle.survey.proofs.Steps.{then, stop, said, nothing, then-done, run, run_all, start, more, broke}
 
 -- the exit of a `?`: what it returns
@@ -78,6 +80,10 @@ pub led-none : {due : Bool} {o : Option Sector} (a : ℕ) (k : Findings) → o �
 led-none {due} a k e l = subst (λ (y : Option Sector). Led due a k y) e l
 
 -- ON A DISK
+pub reads-then : {D : Type 0} {does : D → Request → Answer → D → Type 0} {d d1 d2 : D} → Reads does d d1 → Reads does d1 d2 → Reads does d d2
+reads-then p none = p
+reads-then p (one-more q a) = one-more (reads-then p q) a
+
 pub read-same : (m : Meaning) → ReadOnly m m
 read-same m = record { size = refl; shows = λ k l. refl; fewer = λ k x l i. i; calm = λ c. c }
 
@@ -115,10 +121,10 @@ refused {m} {m'} {n} {old} {new} {f} g e c l =
     let o = g.calm.accepts c (l, i) in cc
 
 module _ {D : Type 0} (meaning : D → Meaning) (does : D → Request → Answer → D → Type 0) where
-  pub leaves-then : {d d1 : D} (d2 : D) (r : Done) → ReadOnly (meaning d) (meaning d1) → ((meaning d).live ≡ true → (meaning d1).live ≡ true) → Leaves meaning does d1 r d2 → Leaves meaning does d r d2
-  leaves-then d2 (Ok u) k p q = λ l. q (p l)
-  leaves-then d2 (Err (Layout e)) k p q = λ l. q (p l)
-  leaves-then d2 (Err (Disk f)) k p q = record { from = q.from; sector = q.sector; asked = q.asked; why = q.why; not_calm = λ g c l. q.not_calm g (k.calm c) (p l) }
+  pub leaves-then : {d d1 : D} (d2 : D) (r : Done) → Reads does d d1 → ReadOnly (meaning d) (meaning d1) → ((meaning d).live ≡ true → (meaning d1).live ≡ true) → Leaves meaning does d1 r d2 → Leaves meaning does d r d2
+  leaves-then d2 (Ok u) s k p q = λ l. q (p l)
+  leaves-then d2 (Err (Layout e)) s k p q = λ l. q (p l)
+  leaves-then d2 (Err (Disk f)) s k p q = record { from = q.from; sector = q.sector; reached = reads-then s q.reached; asked = q.asked; why = q.why; not_calm = λ g c l. q.not_calm g (k.calm c) (p l) }
 
   still-leaves : {T : Type 0} (d : D) (r : Result T LayoutFault) → Leaves meaning does d (told_layout r) d
   still-leaves d (Ok v) = λ l. l
@@ -130,23 +136,24 @@ module _ {D : Type 0} {meaning : D → Meaning} {does : D → Request → Answer
       let a = p.room in
       let b = q.room in
       record {
+        reads = reads-then p.reads q.reads;
         read = read-then p.read q.read;
-        leaves = leaves-then meaning does _ r p.read p.leaves q.leaves;
+        leaves = leaves-then meaning does _ r p.reads p.read p.leaves q.leaves;
         room = omega arith;
         asked = λ w s. then (f w) (g w) (p.asked w s) (q.asked w (shown-then p.read s));
       }
 
   pub s_stop : {d d1 : D} {x x1 : Memory} {e : VolumeFault} (f g : World → Step) → Surveyed meaning does d x f (Err e) d1 x1 → Surveyed meaning does d x (λ w. f w ▸ g w) (Err e) d1 x1
-  s_stop f g p = record { read = p.read; leaves = p.leaves; room = p.room; asked = λ w s. stop (f w) (g w) (p.asked w s) }
+  s_stop f g p = record { reads = p.reads; read = p.read; leaves = p.leaves; room = p.room; asked = λ w s. stop (f w) (g w) (p.asked w s) }
 
   -- the disk is not read
   pub still : {T : Type 0} {x x1 : Memory} {f : World → Step} (d : D) (r : Result T LayoutFault) → Tells x f (told_layout r) x1 → Surveyed meaning does d x f (told_layout r) d x1
-  still d r p = record { read = read-same (meaning d); leaves = still-leaves meaning does d r; room = p.room; asked = λ w s. p.asked w }
+  still d r p = record { reads = none; read = read-same (meaning d); leaves = still-leaves meaning does d r; room = p.room; asked = λ w s. p.asked w }
 
   pub s_said : {d d1 : D} {x x1 : Memory} {f g : World → Step} {r q : Done} → ((w : World) → IsShown (meaning d) w → f w ≡ g w) → r ≡ q → Surveyed meaning does d x f q d1 x1 → Surveyed meaning does d x g r d1 x1
   s_said {d} {d1} {x} {x1} {f} {g} {r} {q} e a p =
       subst (λ (z : Done). Surveyed meaning does d x g z d1 x1) (sym a)
-      (record { read = p.read; leaves = p.leaves; room = p.room; asked = λ w s. said (e w s) (p.asked w s) })
+      (record { reads = p.reads; read = p.read; leaves = p.leaves; room = p.room; asked = λ w s. said (e w s) (p.asked w s) })
 
   pub s_ends : {d d1 d2 : D} {x x1 x2 : Memory} {f : World → Step} {r : Done} → d2 ≡ d1 → x2 ≡ x1 → Surveyed meaning does d x f r d1 x1 → Surveyed meaning does d x f r d2 x2
   s_ends {d} {d1} {d2} {x} {x1} {x2} {f} {r} e a p =
@@ -160,6 +167,7 @@ module _ {D : Type 0} {meaning : D → Meaning} {does : D → Request → Answer
       let b = p.room in
       let c = q.room in
       record {
+        reads = reads-then p.reads q.reads;
         read = read-then p.read q.read;
         leaves = λ l. q.leaves (p.leaves l);
         room = omega arith;
@@ -171,8 +179,9 @@ module _ {D : Type 0} {meaning : D → Meaning} {does : D → Request → Answer
       let b = p.room in
       let c = q.room in
       record {
+        reads = reads-then p.reads q.reads;
         read = read-then p.read q.read;
-        leaves = leaves-then meaning does _ (Err e) p.read p.leaves q.leaves;
+        leaves = leaves-then meaning does _ (Err e) p.reads p.read p.leaves q.leaves;
         room = omega arith;
         asked = λ w s. broke (f w) a i n h l (p.asked w s) (q.asked w (shown-then p.read s));
       }
@@ -183,6 +192,7 @@ module _ {D : Type 0} {meaning : D → Meaning} {does : D → Request → Answer
       let b = p.room in
       let c = q.room in
       record {
+        reads = q.reads;
         read = q.read;
         leaves = q.leaves;
         room = omega arith;
@@ -197,22 +207,24 @@ module _ {D : Type 0} {meaning : D → Meaning} {does : D → Request → Answer
 
   -- A SECTOR READ
   -- and the questions go on
-  pub s_read : {d d1 d2 : D} {x x1 : Memory} {r : Done} {n : ℕ} {old new : Contents} {f : World → Step} → Gets (meaning d) n old (Ok tt) (meaning d1) new → Surveyed meaning does d1 x f r d2 x1 → Surveyed meaning does d x f r d2 x1
-  s_read {r = r} g q =
+  pub s_read : {d d1 d2 : D} {x x1 : Memory} {r : Done} {n : ℕ} {old new : Contents} {f : World → Step} → Gets (meaning d) n old (Ok tt) (meaning d1) new → does d (getting n) (Ok tt) d1 → Surveyed meaning does d1 x f r d2 x1 → Surveyed meaning does d x f r d2 x1
+  s_read {r = r} g a q =
       record {
+        reads = reads-then (one-more none a) q.reads;
         read = read-then (read-got g) q.read;
-        leaves = leaves-then meaning does _ r (read-got g) (λ l. g.answer.live) q.leaves;
+        leaves = leaves-then meaning does _ r (one-more none a) (read-got g) (λ l. g.answer.live) q.leaves;
         room = q.room;
         asked = λ w s. q.asked w (shown-then (read-got g) s);
       }
 
   pub faults : {d d1 : D} {n : ℕ} {old new : Contents} {f : DiskFault} → Gets (meaning d) n old (Err f) (meaning d1) new → does d (getting n) (Err f) d1 → Faults meaning does d f d1
-  faults {d} {d1} {n} {f = f} g a = record { from = d; sector = n; asked = a; why = g.answer.why; not_calm = refused g }
+  faults {d} {d1} {n} {f = f} g a = record { from = d; sector = n; reached = none; asked = a; why = g.answer.why; not_calm = refused g }
 
   -- or the disk does not answer
   pub s_unread : {d d1 : D} {n : ℕ} {old new : Contents} {f : DiskFault} (x : Memory) (g : World → Step) → Gets (meaning d) n old (Err f) (meaning d1) new → does d (getting n) (Err f) d1 → n < x.found.size → Surveyed meaning does d x g (Err (Disk f)) d1 x
   s_unread {d} {d1} {n} {f = f} x g p a l =
       record {
+        reads = one-more none a;
         read = read-got p;
         leaves = faults p a;
         room = omega arith;

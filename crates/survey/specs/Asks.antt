@@ -3,7 +3,7 @@ use Rattle.std.specs.Prelude.{◌≡◌, ℕ, suc, ◌+◌, ◌*◌, ◌-◌, �
 use Rattle.disk.specs.declared.fault.Cause.TheVariants.{Gone}
 use Rattle.disk.specs.declared.fault.DiskFault.{DiskFault}
 use Rattle.disk.specs.Meaning.{Contents, Meaning}
-use Rattle.disk.specs.Rules.{Answer, Request, Shows, Fewer, Refuses}
+use Rattle.disk.specs.Rules.{Answer, Request, Refuses}
 use Rattle.disk.specs.Rules.Request.{getting}
 use Rattle.numbers.specs.declared.name.Name.{Name}
 use Rattle.numbers.specs.declared.sector.Address.{Address}
@@ -30,6 +30,7 @@ use Rattle.tree.specs.Tree.{most_levels}
 use Rattle.survey.specs.declared.findings.Findings.{Findings}
 use Rattle.survey.specs.declared.row.FileRow.{FileRow}
 use Rattle.survey.specs.Lines.{lines, is_met, met_count}
+use Rattle.survey.specs.Reads.{Reads, ReadOnly}
 
 -- what the questions are about: the size of a disk, the level on which leaves belong, and what is shown
 pub record World : Type 0 where
@@ -97,18 +98,12 @@ pub record IsShown (m : Meaning) (w : World) : Type 0 where
   pub size : m.size ≡ w.size
   pub shows : (n : ℕ) → n < m.size → m.shown n ≡ w.shown n
 
--- what only reads leave of a disk
-pub record ReadOnly (m m' : Meaning) : Type 0 where
-  pub size : m'.size ≡ m.size
-  pub shows : Shows m m'
-  pub fewer : Fewer m m'
-  pub calm : m.calm ≡ true → m'.calm ≡ true
-
 module _ {D : Type 0} (meaning : D → Meaning) (does : D → Request → Answer → D → Type 0) where
   -- a get of this disk answered f and left it so
   pub record Faults (d : D) (f : DiskFault) (d' : D) : Type 0 where
     pub from : D
     pub sector : ℕ
+    pub reached : Reads does d from
     pub asked : does from (getting sector) (Err f) d'
     pub why : Refuses f.cause (meaning from) sector f (meaning d')
     pub not_calm : f.cause ≡ Gone → (meaning d).calm ≡ true → (meaning d).live ≡ true → ⊥
@@ -121,6 +116,7 @@ module _ {D : Type 0} (meaning : D → Meaning) (does : D → Request → Answer
 
   -- the questions of a world, asked of a disk that shows it
   pub record Surveyed (d : D) (x : Memory) (f : World → Step) (r : Done) (d' : D) (x' : Memory) : Type 0 where
+    pub reads : Reads does d d'
     pub read : ReadOnly (meaning d) (meaning d')
     pub leaves : Leaves d r d'
     pub room : Roomy x.found x'.found
@@ -206,6 +202,7 @@ LevelIs m (Err (Layout e)) = ⊥
 LevelIs m (Err (Disk f)) = f.cause ≡ Gone
 
 pub record Levelled {D : Type 0} (meaning : D → Meaning) (does : D → Request → Answer → D → Type 0) (d : D) (r : Result ℕ VolumeFault) (d' : D) : Type 0 where
+  pub reads : Reads does d d'
   pub read : ReadOnly (meaning d) (meaning d')
   pub leaves : Leaves meaning does d (told r) d'
   pub level : LevelIs (meaning d) r

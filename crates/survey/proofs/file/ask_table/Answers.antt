@@ -27,7 +27,7 @@ returns-in_err-follow g c = λ rows.
     let b = c.get.new.into in
     let a = c.args.last in let k = c.args.k in let t = c.args.table.0 in
     s_said (λ w s. table-all b a k t 256 w refl (got-shown c.in_ok-get.ensures.rule s c.from.ensures)) (ap told (exit _ c.from_residual-in_err-follow.ensures.1))
-    (s_read c.in_ok-get.ensures.rule
+    (s_read c.in_ok-get.ensures.rule c.in_ok-get.ensures.done
     (still {T = Sector} _ (Err c.in_err-follow.field-0.0)
     (t_broke (entry_turn b a k t) 0 _ 256 (omega arith) (omega arith) (c.loop-j.invariant b rows (ap (λ (y : Table). y.sectors) c.decode.ensures))
     (entry-in b _ a k t _ _ (ap (λ (y : Table). y.sectors) c.decode.ensures) (omega arith) c.if-k-j.true (c.in_err-follow.ensures.told rows)))))
@@ -37,4 +37,4 @@ returns g c = λ rows.
     let b = c.get.new.into in
     let a = c.args.last in let k = c.args.k in let t = c.args.table.0 in
     s_said (λ w s. table-all b a k t _ w (omega arith) (got-shown c.in_ok-get.ensures.rule s c.from.ensures)) refl
-    (s_read c.in_ok-get.ensures.rule (still {T = Unit {0}} _ (Ok tt) (c.loop-j.invariant b rows (ap (λ (y : Table). y.sectors) c.decode.ensures))))
+    (s_read c.in_ok-get.ensures.rule c.in_ok-get.ensures.done (still {T = Unit {0}} _ (Ok tt) (c.loop-j.invariant b rows (ap (λ (y : Table). y.sectors) c.decode.ensures))))

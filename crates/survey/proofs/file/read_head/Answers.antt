@@ -12,12 +12,12 @@ returns-in_err-get-clause-told g c = λ x i.
 pub returns-in_err-header-clause-told : goal.returns-in_err-header-clause-told
 returns-in_err-header-clause-told g c = λ x i.
     s_said (λ w s. ap (λ (b : Contents). head_asks b c.args.first.0) (got-shown c.in_ok-get.ensures.rule s c.from.ensures)) (ap told (exit _ c.from_residual-in_err-header.ensures.1))
-    (s_read c.in_ok-get.ensures.rule (still {T = Header} _ (Err c.in_err-header.field-0.0) (c.in_err-header.ensures.told x)))
+    (s_read c.in_ok-get.ensures.rule c.in_ok-get.ensures.done (still {T = Header} _ (Err c.in_err-header.field-0.0) (c.in_err-header.ensures.told x)))
 
 pub returns-clause-told : goal.returns-clause-told
 returns-clause-told g c = λ x i.
     s_said (λ w s. ap (λ (b : Contents). head_asks b c.args.first.0) (got-shown c.in_ok-get.ensures.rule s c.from.ensures)) refl
-    (s_read c.in_ok-get.ensures.rule (still {T = Header} _ (Ok c.in_ok-header.header) (c.in_ok-header.ensures.told x)))
+    (s_read c.in_ok-get.ensures.rule c.in_ok-get.ensures.done (still {T = Header} _ (Ok c.in_ok-header.header) (c.in_ok-header.ensures.told x)))
 
 pub returns-clause-head : goal.returns-clause-head
 returns-clause-head g c =
