@@ -1,5 +1,5 @@
 -- Sectors met, and those of files, counted.
-use Rattle.std.proofs.Common.{◌≡◌, ℕ, zero, suc, ◌+◌, ◌<◌, ◌≤◌, Bool, true, false, cond, ◌||◌, eqb, ◌⊎◌, inl, inr, List, [], ◌∷◌, ◌++◌, length, reverse, map, get_or, set, sum_by, sym, refl, ap, ◌∙◌, subst, add_comm, arith}
+use Rattle.std.proofs.Common.{◌≡◌, zero-add, ℕ, zero, suc, ◌+◌, ◌<◌, ◌≤◌, Bool, true, false, cond, ◌||◌, eqb, ◌⊎◌, inl, inr, List, [], ◌∷◌, ◌++◌, length, reverse, map, get_or, set, sum_by, sym, refl, ap, ◌∙◌, subst, add_comm, arith}
 use Rattle.std.proofs.lemmas.Bool.{eqb-true, eqb-false, eq-eqb, both_ways, cases_lt, cases_Bool}
 use Rattle.std.proofs.lemmas.List.{length-append, length-set, get_or-set_same, get_or-set_other, reverse-append}
 use Rattle.std.proofs.Math.ListN.{get_or-eq_default}
@@ -15,22 +15,25 @@ use Rattle.survey.specs.Lines.{is_met, met_count}
 -- MEMBERS of a list
 pub member-in : (n : ℕ) (l : List ℕ) → member n l ≡ true → In n l
 member-in n [] e = cc
-member-in n (x ∷ xs) e = go (eqb n x) refl where
-  go : (b : Bool) → eqb n x ≡ b → (n ≡ x) ⊎ In n xs
-  go true q = inl (eqb-true n x q)
-  go false q = inr (member-in n xs (sym (ap (λ (b : Bool). b || member n xs) q) ∙ e))
+member-in n (x ∷ xs) e = go (eqb n x) refl (member-in n xs) where
+  go : (b : Bool) → eqb n x ≡ b → (member n xs ≡ true → In n xs) → (n ≡ x) ⊎ In n xs
+  go true q h = inl (eqb-true n x q)
+  go false q h = inr (h (sym (ap (λ (b : Bool). b || member n xs) q) ∙ e))
 
 pub in-member : (n : ℕ) (l : List ℕ) → In n l → member n l ≡ true
+in-member n [] i = absurd i
 in-member n (x ∷ xs) (inl e) = ap (λ (b : Bool). b || member n xs) (eq-eqb n x e)
-in-member n (x ∷ xs) (inr i) = go (eqb n x) where
-  go : (b : Bool) → (b || member n xs) ≡ true
-  go true = refl
-  go false = in-member n xs i
+in-member n (x ∷ xs) (inr i) = or_from_right (eqb n x) (in-member n xs i) where
+  or_from_right : (b : Bool) → member n xs ≡ true → (b || member n xs) ≡ true
+  or_from_right true m = refl
+  or_from_right false m = m
 
 -- COUNTS. A map of which nothing is met
 pub count-none : (marks : List Bool) → ((n : ℕ) → is_met marks n ≡ false) → met_count marks ≡ 0
 count-none [] h = refl
-count-none (b ∷ bs) h = sum_by-cons (λ (x : Bool). cond x 1 0) b bs ∙ ap (λ (x : Bool). cond x 1 0 + met_count bs) (h 0) ∙ count-none bs (λ n. h (suc n))
+count-none (b ∷ bs) h =
+    let n = count-none bs (λ n. h (suc n)) in
+    sum_by-cons (λ (x : Bool). cond x 1 0) b bs ∙ ap (λ (x : Bool). cond x 1 0 + met_count bs) (h 0) ∙ zero-add (met_count bs) ∙ n
 
 met-inside : (marks : List Bool) (n : ℕ) → is_met marks n ≡ true → n < length marks
 met-inside marks n e = go (cases_lt n (length marks)) where
@@ -46,7 +49,7 @@ count-met (x ∷ xs) marks d h =
     let i = met-inside marks x on in
     let less = count-met xs (set marks x false) d.1 (λ n. unset n (eqb n x) refl) in
     let one = sum_by-set (λ (b : Bool). cond b 1 0) marks x false false i in
-    let at : cond (get_or marks x false) 1 0 ≡ 1 = ap (λ (b : Bool). cond b 1 0) on in
+    let at : ◌≡◌ {A = ℕ} (cond (get_or marks x false) 1 0) 1 = ap (λ (b : Bool). cond b 1 0) on in
     omega (arith, less, one, at)
   where
     unset : (n : ℕ) (b : Bool) → eqb n x ≡ b → is_met (set marks x false) n ≡ member n xs

@@ -5,3 +5,4 @@ pub mod Files
 pub mod Levels
 pub mod Pages
 pub mod Counting
+pub mod Surveying

@@ -30,7 +30,8 @@ impl Findings {
     pub fn new(size: u16, leaf_level: u32, first: Sector) -> Findings
         requires few { size ≤ most_sectors }
         requires inside { first.0 < size }
-        ensures { (w : World) (t : List FileRow) → size ≡ w.size → leaf_level ≡ w.deep → Stands w t (record { found = result; rows = t }) (begin w.size w.shown first.0) }
+        ensures size { result.size ≡ size }
+        ensures stands { (w : World) (t : List FileRow) → size ≡ w.size → leaf_level ≡ w.deep → Stands w t (record { found = result; rows = t }) (begin w.size w.shown first.0) }
     {
         let mut map = SectorMap::new();
         map.meet(first);
