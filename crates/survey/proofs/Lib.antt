@@ -6,3 +6,4 @@ pub mod Levels
 pub mod Pages
 pub mod Counting
 pub mod Surveying
+pub mod Reading
