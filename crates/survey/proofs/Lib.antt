@@ -7,3 +7,4 @@ pub mod Pages
 pub mod Counting
 pub mod Surveying
 pub mod Reading
+pub mod Fetching

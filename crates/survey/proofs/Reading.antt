@@ -11,6 +11,7 @@ use Rattle.numbers.specs.declared.sector.Sector.{Sector}
 use Rattle.numbers.specs.Lengths.{near_sectors, table_sectors, most_tables, header_size, sector_size, last_of_longest, last_sector, tables, place}
 use Rattle.numbers.specs.Sectors.{address, sector_at}
 use Rattle.numbers.proofs.Linking.{led-to}
+use Rattle.numbers.proofs.Sizes.{lengths}
 use Rattle.layout.specs.declared.header.Header.{Header}
 use Rattle.layout.specs.declared.table.Table.{Table}
 use Rattle.layout.specs.Words.{word_size, word, written, addresses_in}
@@ -114,6 +115,10 @@ module _ (w : World) (first : ℕ) (h : Header) (p : Held w first h) where
   long-is : h.length.0 ≡ x.long
   unfolding x extent
   long-is = (length-word _ h p.header).0
+
+  long-held : h.length.0 ≡ (extent w.size w.shown first).long
+  unfolding x
+  long-held = long-is
 
   parts-are : length x.parts ≡ 1 + last_sector h.length.0
   unfolding x
@@ -228,3 +233,92 @@ module _ {D : Type 0} {meaning : D → Meaning} {does : D → Request → Answer
       ((w : World) → size ≡ w.size → IsShown (meaning d) w → Held w first h → i ≤ last_sector h.length.0 → n < w.size) → FindsPart meaning does d size h first i (Err (Disk f)) d1
   finds-lost {d} {d1} {n} {f = f} g a p =
       record { reads = more none a; read = read-got g; leaves = faults g a; part = λ w z s y l. let k = p w z s y l in let v = s.size in gone-inside f.cause (meaning d) (meaning d1) n f g.answer.why (omega arith) }
+
+-- every part is on the disk
+part-inside : (w : World) (first : ℕ) (h : Header) → Held w first h → (i : ℕ) → i < length (extent w.size w.shown first).parts → get_or (extent w.size w.shown first).parts i 0 < w.size
+part-inside w first h p zero l = subst (λ (z : ℕ). z < w.size) (sym p.file.reaches.first) p.first_in
+part-inside w first h p (suc i) l = (p.inside _ (inl (in-rest _ (suc i) (omega arith) l))).1
+
+-- so far: the first `done` bytes stand in the buffer
+pub record Filling {D : Type 0} (meaning : D → Meaning) (does : D → Request → Answer → D → Type 0) (d : D) (size : ℕ) (h : Header) (first : ℕ) (old : List ℕ) (done : ℕ) (d1 : D) (now : List ℕ) : Type 0 where
+  pub reads : Reads does d d1
+  pub read : ReadOnly (meaning d) (meaning d1)
+  pub live : (meaning d).live ≡ true → (meaning d1).live ≡ true
+  pub filled : (w : World) → size ≡ w.size → IsShown (meaning d) w → Held w first h → now ≡ overlaid (take done (bytes_of w.shown (extent w.size w.shown first))) old
+
+few-at : (done long i : ℕ) → done < long → i ≡ (place done).0 → i ≤ last_sector long
+few-at done long i h e = let q = (lengths.within done long h).0 in omega arith
+
+module _ {D : Type 0} {meaning : D → Meaning} {does : D → Request → Answer → D → Type 0} where
+  pub filling-start : (d : D) (size : ℕ) (h : Header) (first : ℕ) (old : List ℕ) → Filling meaning does d size h first old 0 d old
+  filling-start d size h first old = record { reads = none; read = read-same (meaning d); live = λ l. l; filled = λ w z s p. refl }
+
+  module _ {d d1 : D} {size first done : ℕ} {h : Header} {old now : List ℕ} (f : Filling meaning does d size h first old done d1 now) where
+    pub filling-all : (length old ≤ done) ⊎ (h.length.0 ≤ done) → Fills meaning does d size h first old (Ok tt) d1 now
+    filling-all e =
+        record {
+          reads = f.reads;
+          read = f.read;
+          leaves = f.live;
+          filled = λ w z s p. f.filled w z s p ∙ cover done (bytes_of w.shown (extent w.size w.shown first)) old (over w p e);
+        }
+      where
+        over : (w : World) → Held w first h → (length old ≤ done) ⊎ (h.length.0 ≤ done) → (length old ≤ done) ⊎ (length (bytes_of w.shown (extent w.size w.shown first)) ≤ done)
+        over w p (inl l) = inl l
+        over w p (inr l) = let b = bytes_long w.shown (extent w.size w.shown first) in let i = long-held w first h p in inr (omega arith)
+
+    pub filling-no-part : {d2 : D} {i : ℕ} (v : VolumeFault) → done < h.length.0 → i ≡ (place done).0 → FindsPart meaning does d1 size h first i (Err v) d2 → Fills meaning does d size h first old (Err v) d2 now
+    filling-no-part (Layout e) l k q =
+        record {
+          reads = reads-then f.reads q.reads;
+          read = read-then f.read q.read;
+          leaves = λ a. q.leaves (f.live a);
+          filled = λ w z s p. q.part w z (shown-then f.read s) p (few-at done h.length.0 _ l k);
+        }
+    filling-no-part {d2} (Disk x) l k q =
+        record {
+          reads = reads-then f.reads q.reads;
+          read = read-then f.read q.read;
+          leaves = leaves-then meaning does d2 (Err (Disk x)) f.reads f.read f.live q.leaves;
+          filled = λ w z s p. (q.part w z (shown-then f.read s) p (few-at done h.length.0 _ l k), (done, f.filled w z s p));
+        }
+
+    module _ {d2 : D} {i n : ℕ} {part : Sector} (l : done < h.length.0) (k : i ≡ (place done).0) (q : FindsPart meaning does d1 size h first i (Ok part) d2) (e : n ≡ part.0) where
+      here-is : (w : World) → size ≡ w.size → IsShown (meaning d) w → Held w first h → n ≡ get_or (extent w.size w.shown first).parts i 0
+      here-is w z s p = e ∙ q.part w z (shown-then f.read s) p (few-at done h.length.0 i l k)
+
+    module _ {d2 d3 : D} {i n : ℕ} {part : Sector} {before c : Contents} (l : done < h.length.0) (k : i ≡ (place done).0) (q : FindsPart meaning does d1 size h first i (Ok part) d2) (e : n ≡ part.0) where
+      pub filling-lost : {x : DiskFault} → Gets (meaning d2) n before (Err x) (meaning d3) c → does d2 (getting n) (Err x) d3 → Fills meaning does d size h first old (Err (Disk x)) d3 now
+      filling-lost {x} g a =
+          record {
+            reads = more (reads-then f.reads q.reads) a;
+            read = read-then (read-then f.read q.read) (read-got g);
+            leaves = leaves-then meaning does d3 (Err (Disk x)) (reads-then f.reads q.reads) (read-then f.read q.read) (λ v. q.leaves (f.live v)) (faults g a);
+            filled = λ w z s p.
+                let t = read-then f.read q.read in
+                let u = in-parts w first h p i (few-at done h.length.0 i l k) in
+                let v = part-inside w first h p i u in
+                let y = here-is l k q e w z s p in
+                let zs = t.size in
+                let ss = s.size in
+                (gone-inside x.cause (meaning d2) (meaning d3) n x g.answer.why (omega arith), (done, f.filled w z s p));
+          }
+
+      pub filling-more : (o m : ℕ) {next : ℕ} {new : List ℕ} → Gets (meaning d2) n before (Ok tt) (meaning d3) c → does d2 (getting n) (Ok tt) d3 → o ≡ (place done).1 → new ≡ written now done (take m (drop o c)) → next ≡ done + m →
+          done + m ≤ h.length.0 → done + m ≤ length old → o + m ≤ sector_size → length c ≡ sector_size → Filling meaning does d size h first old next d3 new
+      filling-more o m g a j r b u v y x =
+          record {
+            reads = more (reads-then f.reads q.reads) a;
+            read = read-then (read-then f.read q.read) (read-got g);
+            live = λ _. g.answer.live;
+            filled = λ w z s p.
+                let t = read-then f.read q.read in
+                let file = extent w.size w.shown first in
+                let is = here-is l k q e w z s p in
+                let long = long-held w first h p in
+                let shown = got-shown g (shown-then t s) is in
+                let bl = bytes_long w.shown file in
+                r ∙ ap (λ (l : List ℕ). written l done (take m (drop o c))) (f.filled w z s p)
+                ∙ ap (written (overlaid (take done (bytes_of w.shown file)) old) done) (piece w.shown file c done m i o (omega arith) k j y x shown)
+                ∙ chunk done m (bytes_of w.shown file) old (omega arith) v ∙ ap (λ (k : ℕ). overlaid (take k (bytes_of w.shown file)) old) (sym b);
+          }
