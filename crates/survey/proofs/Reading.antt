@@ -1,5 +1,5 @@
 -- The bytes of a file that is laid.
-use Rattle.std.proofs.Common.{◌≡◌, ℕ, zero, suc, ◌+◌, ◌-◌, ◌*◌, ◌/◌, ◌%◌, ◌<◌, ◌≤◌, Bool, true, false, cond, leb, ◌⊎◌, inl, inr, List, [], ◌∷◌, ◌++◌, length, get_or, take, drop, map, Some, None, Ok, Err, Option, Result, sym, refl, ap, ◌∙◌, subst, add-zero, arith}
+use Rattle.std.proofs.Common.{◌≡◌, ℕ, zero, suc, ◌+◌, ◌*◌, ◌/◌, ◌%◌, ◌<◌, ◌≤◌, true, false, leb, ◌⊎◌, inl, inr, List, [], ◌∷◌, ◌++◌, length, get_or, take, drop, Some, None, Ok, Err, Option, Result, sym, refl, ap, ◌∙◌, subst, arith}
 use Rattle.std.proofs.lemmas.Bool.{and_from, and_parts, both_ways, cases_lt, le-leb, leb-true}
 use Rattle.std.proofs.lemmas.List.{ext_get_or, get_or-take, get_or-drop, length-take-le, length-drop, length-map}
 use Rattle.disk.specs.declared.fault.DiskFault.{DiskFault}
@@ -13,9 +13,7 @@ use Rattle.numbers.specs.Sectors.{address, sector_at}
 use Rattle.numbers.proofs.Linking.{led-to}
 use Rattle.numbers.proofs.Sizes.{lengths}
 use Rattle.layout.specs.declared.header.Header.{Header}
-use Rattle.layout.specs.declared.table.Table.{Table}
 use Rattle.layout.specs.Words.{word_size, word, written, addresses_in}
-use Rattle.layout.specs.Headers.{near_at, tables_at}
 use Rattle.layout.specs.Tables.{in_table, table_place}
 use Rattle.catalog.specs.declared.fault.LayoutFault.{LayoutFault}
 use Rattle.catalog.specs.declared.fault.VolumeFault.{VolumeFault}
@@ -26,8 +24,8 @@ use Rattle.catalog.proofs.Counts.{range_at, length-range}
 use Rattle.catalog.proofs.File.{tables-over}
 use Rattle.survey.specs.Reads.{Reads, ReadOnly}
 use Rattle.survey.specs.Reads.Reads.{none, more}
-use Rattle.survey.specs.Asks.{World, IsShown, HeaderOf, Faults, Leaves, told, yes}
-use Rattle.survey.specs.Fetches.{Held, PartIs, FilledAs, FindsPart, Fills}
+use Rattle.survey.specs.Asks.{World, IsShown}
+use Rattle.survey.specs.Fetches.{Held, PartIs, FindsPart, Fills}
 use Rattle.survey.proofs.Files.{near-word, table-word, length-word, address-at}
 use Rattle.survey.proofs.Tellings.{reads-then, read-same, read-then, read-got, got-shown, shown-then, leaves-then, faults, gone-inside}
 
@@ -116,7 +114,7 @@ module _ (w : World) (first : ℕ) (h : Header) (p : Held w first h) where
   unfolding x extent
   long-is = (length-word _ h p.header).0
 
-  long-held : h.length.0 ≡ (extent w.size w.shown first).long
+  pub long-held : h.length.0 ≡ (extent w.size w.shown first).long
   unfolding x
   long-held = long-is
 

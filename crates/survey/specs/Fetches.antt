@@ -1,7 +1,7 @@
 -- What the code that reads a file answers, of a file whose questions were answered with yes.
 use Rattle.std.specs.Prelude.{◌≡◌, ℕ, ◌<◌, ◌≤◌, ◌⊎◌, List, drop, take, Ok, Err, Result, slice_index}
 use Rattle.disk.specs.declared.fault.Cause.TheVariants.{Gone}
-use Rattle.disk.specs.Meaning.{Contents, Meaning, In}
+use Rattle.disk.specs.Meaning.{Meaning, In}
 use Rattle.disk.specs.Rules.{Answer, Request}
 use Rattle.numbers.specs.declared.sector.Sector.{Sector}
 use Rattle.numbers.specs.Lengths.{last_sector}

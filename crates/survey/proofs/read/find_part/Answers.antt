@@ -1,4 +1,4 @@
-use Rattle.std.proofs.Common.{◌≡◌, ◌<◌, ◌≤◌, Err, Result, sym, refl, ap, ◌∙◌, subst, arith}
+use Rattle.std.proofs.Common.{Result, sym, ap, subst, arith}
 use Rattle.numbers.specs.declared.sector.Sector.{Sector}
 use Rattle.layout.specs.declared.table.Table.{Table}
 use Rattle.catalog.specs.declared.fault.VolumeFault.{VolumeFault}

@@ -1,5 +1,5 @@
 use Rattle.layout.specs.Words.{written}
-use Rattle.std.proofs.Common.{◌≡◌, ℕ, take, drop, ◌<◌, ◌≤◌, ◌+◌, ◌-◌, ◌⊎◌, inl, inr, length, Err, Result, sym, refl, ap, ◌∙◌, subst, arith}
+use Rattle.std.proofs.Common.{◌≡◌, ℕ, take, drop, ◌+◌, ◌-◌, inl, inr, length, Result, sym, refl, ap, ◌∙◌, subst, arith}
 use Rattle.std.proofs.lemmas.Bool.{cases_lt}
 use Rattle.catalog.specs.declared.fault.VolumeFault.{VolumeFault}
 use Rattle.survey.specs.Fetches.{Fills}
