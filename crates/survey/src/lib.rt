@@ -1,11 +1,11 @@
 //! A volume's questions put to a disk: what it holds, or the first no.
 #![tactic(auto)]
 
-pub mod asks;
-pub mod file;
-pub mod findings;
+mod asks;
+mod file;
+mod findings;
 pub mod map;
-pub mod page;
-pub mod read;
+mod page;
+mod read;
 pub mod row;
 pub mod survey;

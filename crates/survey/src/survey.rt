@@ -19,7 +19,8 @@ use numbers::sector::Sector;
 /// The fewest sectors that a volume has.
 const FEWEST_SECTORS: usize = 3;
 
-/// How much a sound volume holds.
+/// How much a sound volume holds: names, pages, sectors of files with their tables, and free sectors. The last three and the unused sector 0
+/// are all sectors of the disk.
 #[derive(Clone, Copy, Debug, Default, PartialEq, Eq)]
 pub struct Counts {
     pub names: usize,
@@ -95,7 +96,7 @@ pub fn read_file<D: Disk>(
 {
     let size = ask_size(disk.size())?;
     let header = read_head(disk, first)?;
-    let mut findings = Findings::new(size, 1, first);
+    let mut findings = Findings::new(size, 1, first); // no page is asked: the level of leaves does not matter
     ask_links(disk, &mut findings, &header, first)?;
     read_bytes(disk, size, &header, first, into)?;
     Ok(header.length)
