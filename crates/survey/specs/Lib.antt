@@ -1,0 +1,5 @@
+pub mod Lines
+pub mod Reads
+pub mod Surveys
+pub mod Asks
+pub mod Fetches
