@@ -1,6 +1,6 @@
 -- What a call of the store asks of its disk: the disk's own calls one after another, each accepted, or the last one refused with the fault
 -- that the call answers, unchanged.
-use Rattle.std.specs.Prelude.{Some, None, Ok, Err, Option, ◌≢◌}
+use Rattle.std.specs.Prelude.{Bool, true, false, Some, None, Ok, Err, Option, ◌≢◌}
 use Rattle.disk.specs.declared.fault.DiskFault.{DiskFault}
 use Rattle.disk.specs.Rules.{Answer as DiskAnswer, Request}
 use Rattle.disk.specs.Rules.Request.{restarting}
@@ -27,7 +27,8 @@ module _ {D : Type 0} (does : D → Request → DiskAnswer → D → Type 0) whe
     more : {d e d' : D} {f : Option DiskFault} (q : Request) → q ≢ restarting → does d q (Ok tt) e → Asked e f d' → Asked d f d'
     refused : {d d' : D} {f : DiskFault} (q : Request) → q ≢ restarting → does d q (Err f) d' → Asked d (Some f) d'
 
-  -- Start: one restart, before all else
-  pub data Restarted : D → Option DiskFault → D → Type 0 where
-    lost : {d d' : D} {f : DiskFault} → does d restarting (Err f) d' → Restarted d (Some f) d'
-    then' : {d e d' : D} {f : Option DiskFault} → does d restarting (Ok tt) e → Asked e f d' → Restarted d f d'
+  -- Start: one restart, before all else; none where question 1, the size, has a no
+  pub data Restarted : Bool → D → Option DiskFault → D → Type 0 where
+    unasked : {d : D} → Restarted false d None d
+    lost : {d d' : D} {f : DiskFault} → does d restarting (Err f) d' → Restarted true d (Some f) d'
+    then' : {d e d' : D} {f : Option DiskFault} → does d restarting (Ok tt) e → Asked e f d' → Restarted true d f d'

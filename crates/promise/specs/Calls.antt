@@ -104,6 +104,18 @@ closes (Register s) = Some s
 closes (Close s) = Some s
 closes (Names rs) = None
 
+-- the calls that put
+abbrev pub puts : Call → Bool
+puts (New n) = false
+puts (Old n) = false
+puts (Delete n) = true
+puts (Set s p) = false
+puts (Read r b) = false
+puts (Write r b) = true
+puts (Register s) = true
+puts (Close s) = true
+puts (Names rs) = false
+
 -- a sector that nothing was put to
 abbrev pub Unput : View → View → ℕ → Type 0
 Unput v v' n = (v'.disk.shown n ≡ v.disk.shown n) × ((x : Contents) → In x (v'.disk.may n) → In x (v.disk.may n))
@@ -150,10 +162,14 @@ pub record Turned (v : View) (t : Table) (h : Holds v t) (c : Call) (a : Answer)
   -- Register, Close and Delete end settled; Register and Close put the first sector, with all that it leads to; no call puts another one's
   pub settled : a ≡ Done → Settled v'.disk
   pub head : (s : ℕ) (o : Open) → closes c ≡ Some s → slice_index_or v.slots s None ≡ Some o → a ≡ Done → Head o (table.files o.slot.file) v'.disk.shown
+  -- the calls that put nothing
+  pub still : puts c ≡ false → Shows v.disk v'.disk × Fewer v.disk v'.disk
   pub others : (s : ℕ) (o : Open) → closes c ≢ Some s → (slice_index_or v.slots s None ≡ Some o) ⊎ (slice_index_or v'.slots s None ≡ Some o) → Unput v v' o.slot.file
+  -- nor that of a file with a name that no slot holds
+  pub unopened : (e : Entry Key) → In e (entries h.catalog) → holder e.1 t.slots ≡ slot_count → Unput v v' e.1
   -- F pages go to free sectors and are written whole; the others stay where they are
-  pub moved : a ≡ Done → (h' : Holds v' table) → length (outside (page_sectors h.catalog) (page_sectors h'.catalog)) ≡ changes t table.tree
-  pub pages : a ≡ Done → (h' : Holds v' table) → DirectoryPut h.catalog v.disk.shown v'.disk.shown h'.catalog
+  pub moved : (h' : Holds v' table) → length (outside (page_sectors h.catalog) (page_sectors h'.catalog)) ≡ changes t table.tree
+  pub pages : (h' : Holds v' table) → DirectoryPut h.catalog v.disk.shown v'.disk.shown h'.catalog
 
 -- Kept l v: what the store keeps towards its ledger, in every state. It is the means to the promise and not part of what a reader must
 -- believe

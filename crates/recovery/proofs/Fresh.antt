@@ -1,11 +1,13 @@
 -- A store on a disk that was just formatted: a run begins with it, and a Start follows.
 use Rattle.std.proofs.Common.{◌≡◌, ℕ, zero, suc, ◌+◌, ◌<◌, ◌≤◌, Bool, true, false, cond, ltb, List, [], ◌∷◌, ◌++◌, map, length, get_or, None, Some, Ok, sym, refl, ap, ◌∙◌, subst, inl, inr, arith}
 use Rattle.std.proofs.lemmas.Bool.{ltb-true}
+use Rattle.std.specs.Str.{bytes_eq}
 use Rattle.numbers.specs.Names.{Key}
 use Rattle.layout.specs.Words.{blank as zeros}
 use Rattle.tree.specs.Tree.{Tree, to_list, Entry}
+use Rattle.tree.specs.Fresh.{changed}
 use Rattle.disk.specs.Meaning.{Contents, In, Whole, Sound}
-use Rattle.catalog.specs.Catalogs.{Extent, Row, plain_tree, overlaid, Catalog, Distinct, range, member, entries, bytes_of}
+use Rattle.catalog.specs.Catalogs.{outside, page_sectors, Extent, Row, plain_tree, overlaid, Catalog, Distinct, range, member, entries, bytes_of}
 use Rattle.catalog.specs.Lays.{root_sector}
 use Rattle.catalog.specs.Laws.{Sized}
 use Rattle.catalog.specs.Questions.{found}
@@ -13,12 +15,12 @@ use Rattle.catalog.proofs.Counts.{member-false, in-occ, length-range}
 use Rattle.catalog.proofs.Found.{found-laid-both, unique}
 use Rattle.promise.specs.declared.fault.FileFault.{FileFault}
 use Rattle.promise.specs.declared.fault.FileFault.TheVariants.{Waiting}
-use Rattle.promise.specs.Table.{Done, No, no_slots, formatted, started, Proper, done, New, Names, Named, Turn, said, first, ◌else◌, plain, records, Table, Answer}
+use Rattle.promise.specs.Table.{changes, Done, No, no_slots, formatted, started, Proper, done, New, Names, Named, Turn, said, first, ◌else◌, plain, records, Table, Answer}
 use Rattle.promise.specs.Table.{done as start_done}
 use Rattle.promise.specs.Ledger.{Ledger, blank, renumbered, refilled, restarted}
 use Rattle.promise.specs.Promise.{Agrees, name_of}
 use Rattle.promise.specs.Promise.{formatted as run_formatted}
-use Rattle.promise.specs.Calls.{OpenAs, seen, uses, Turned, Did, Holds, Starts}
+use Rattle.promise.specs.Calls.{OpenAs, seen, uses, Turned, Did, Holds, Starts, DirectoryPut}
 use Rattle.promise.proofs.Granted.{plain-accepts}
 use Rattle.promise.proofs.Slots.{no-slot}
 use Rattle.promise.proofs.Ledgers.{blank-sane}
@@ -225,6 +227,15 @@ catalog-is t h = unique 11 (holding empty_root zeros) h.catalog empty_catalog si
 uses-are : (t : Table) (h : Holds fresh t) → uses t h.catalog h.extents ≡ uses t empty_catalog []
 uses-are t h = ap (λ (c : Catalog). uses t c h.extents) (catalog-is t h) ∙ ap (λ (xs : List Extent). uses t empty_catalog xs) (unopened t h.extents h.open')
 
+moved-none : (t : Table) (h g : Holds fresh t) → length (outside (page_sectors h.catalog) (page_sectors g.catalog)) ≡ changes t t.tree
+moved-none t h g =
+    ap (λ (c : Catalog). length (outside (page_sectors c) (page_sectors g.catalog))) (catalog-is t h) ∙
+    (ap (λ (c : Catalog). length (outside (page_sectors empty_catalog) (page_sectors c))) (catalog-is t g) ∙
+    sym (ap (λ (x : Tree Key). changed bytes_eq x x) (sym h.tree ∙ ap (λ (c : Catalog). plain_tree c) (catalog-is t h))))
+
+directory : (t : Table) (h g : Holds fresh t) → DirectoryPut h.catalog fresh.disk.shown fresh.disk.shown g.catalog
+directory t h g = subst (λ (c : Catalog). DirectoryPut h.catalog fresh.disk.shown fresh.disk.shown c) (sym (catalog-is t g)) (inl refl, (tt, tt))
+
 listed : (t : Table) (h : Holds fresh t) → Turned fresh t h (Names []) (Named 0 []) fresh
 listed t h = record {
   table = t;
@@ -239,8 +250,10 @@ listed t h = record {
   settled = λ e. named-done e;
   head = λ s o e. none-some s e;
   others = λ s o e f. (refl, λ x i. i);
-  moved = λ e. named-done e;
-  pages = λ e. named-done e;
+  still = λ e. (λ k i. refl, λ k x i j. j);
+  unopened = λ e i o. (refl, λ x i. i);
+  moved = λ g. moved-none t h g;
+  pages = λ g. directory t h g;
 }
   where
     tree : t.tree ≡ plain_tree empty_catalog

@@ -1,5 +1,5 @@
 -- A run keeps what its store keeps, and gives the whole promise by it.
-use Rattle.std.proofs.Common.{◌≡◌, ℕ, Bool, true, false, Ok, sym, refl, ap, subst, arith}
+use Rattle.std.proofs.Common.{◌≡◌, ℕ, Bool, true, false, Ok, sym, refl, ap, ◌∙◌, subst, arith}
 use Rattle.disk.specs.Meaning.{Contents}
 use Rattle.disk.specs.Rules.{Fewer}
 use Rattle.catalog.specs.Catalogs.{Catalog}
@@ -12,7 +12,7 @@ use Rattle.promise.specs.Ledger.{Ledger}
 use Rattle.promise.specs.Promise.{View, Run, formatted, unformatted, turned, stopped, started, anew, Finds, Whole}
 use Rattle.promise.specs.Calls.{says_three, Holds, Formatted, Did, Starts}
 use Rattle.recovery.specs.Picks.{Recovers, Recoverable}
-use Rattle.recovery.specs.Kept.{Kept, RunKept, RunSize, RunPromise}
+use Rattle.recovery.specs.Kept.{Kept, RunKept, RunSize, RunPromise, Lives, LivesHolds}
 use Rattle.recovery.proofs.Steps.{resized, less-recoverable}
 use Rattle.recovery.proofs.Wider.{not-both}
 use Rattle.recovery.proofs.Divided.{started-divided}
@@ -136,3 +136,13 @@ run-size l v r = run-sizes Kept kept-recovers kept-remade r
 
 pub run-promise : RunPromise
 run-promise v a v' s = whole Kept kept-recovers kept-remade v a v' s
+
+pub lives-holds : LivesHolds
+lives-holds v (Lives.made e) r = not-both v.ready e r
+lives-holds v' (Lives.formatted l f) r = let x = f.turns (empty_table 0) in (x.0, x.3 (sym x.2 ∙ r))
+lives-holds v' (Lives.started l f) r = let x = f.turns (empty_table 0) in (x.0, x.3 (sym x.2 ∙ r))
+lives-holds v' (Lives.turned {v = v} l d) r = go v.ready refl (lives-holds v l)
+  where
+    go : (b : Bool) → v.ready ≡ b → (v.ready ≡ true → (t : Table) × Holds v t) → (t : Table) × Holds v' t
+    go false e k = let w = d.waits e in not-both v'.ready (ap (λ (z : View). z.ready) w.1 ∙ e) r
+    go true e k = let h = k e in let u = d.turns e h.0 h.1 in (u.table, u.holds (sym u.ready ∙ r))

@@ -1,6 +1,8 @@
 -- From what a call owes to the put that turns.
 use Rattle.std.proofs.Common.{◌≡◌, ℕ, zero, suc, ◌<◌, ◌≤◌, Bool, true, false, ◌⊎◌, List, [], ◌∷◌, ◌++◌, map, length, get_or, set, sym, refl, ap, ◌∙◌, subst, inl, inr, arith}
 use Rattle.std.proofs.lemmas.List.{length-map}
+use Rattle.std.proofs.lemmas.Bool.{and_parts}
+use Rattle.std.specs.Prelude.{not, ◌||◌}
 use Rattle.numbers.specs.Names.{Key, good_name}
 use Rattle.numbers.specs.Order.{Cmp, below, same, above, cmp}
 use Rattle.tree.specs.Tree.{Entry, pick, All}
@@ -9,11 +11,13 @@ use Rattle.disk.specs.Meaning.{Contents, In}
 use Rattle.catalog.specs.Catalogs.{Extent, Catalog, entries, page_sectors, extents_sectors, file_sectors, Distinct}
 use Rattle.catalog.specs.Lays.{FileAt, FilesAt, root_sector}
 use Rattle.catalog.proofs.Frame.{in_left, in_right}
-use Rattle.promise.specs.Table.{Slot, the_slot}
+use Rattle.promise.specs.Table.{Slot, the_slot, Register, before, slot, slot_at, used, is_empty, is_anonymous}
+use Rattle.promise.proofs.Granted.{granted, used-is}
+use Rattle.promise.proofs.Beside.{slot-is}
 use Rattle.promise.specs.Ledger.{Ledger, slot_of, file_number}
 use Rattle.promise.specs.Promise.{Agrees, name_of}
 use Rattle.recovery.specs.Picks.{with_sector}
-use Rattle.recovery.specs.Owed.{but, placed, no_entry, without_at, put_at, Directory, DeleteTurns, RegisterTurns, CloseTurns, SaneGives}
+use Rattle.recovery.specs.Owed.{but, placed, no_entry, without_at, put_at, Directory, DeleteTurns, RegisterTurns, CloseTurns, SaneGives, RegisterNamed}
 use Rattle.recovery.proofs.Lists.{Own, own_in, own-apart, own-distinct, rest, in_split, join, distinct_apart, distinct-left, distinct-right, get_or-in, file_in}
 use Rattle.recovery.proofs.Steps.{sector-apart}
 use Rattle.recovery.proofs.Calls.{at-move, file-stays, closing-agrees, deleting-agrees, registering-agrees}
@@ -312,3 +316,14 @@ sane-gives = record {
   close_alone = λ l h i s u n e j q. but-other i l.names e s.one u j (q ∙ sym n);
   register_alone = λ l h x s e a d j q. s.apart h x e a d j (q ∙ ap (λ (z : Slot). z.file) (ap the_slot e));
 }
+
+named : (n : _) → not (is_empty n) ≡ true → (is_empty n || good_name n) ≡ true → good_name n ≡ true
+named [] e h = cc
+named (x ∷ n) e h = h
+
+pub register-named : RegisterNamed
+register-named t l h p g e =
+    let q = granted (before t (Register h)) e in
+    let u = used-is (slot_at t h) (and_parts (used t h) (is_anonymous (slot t h).sort) q.1.0).0 in
+    let s = slot-is t l g h u in
+    subst (λ (z : Slot). good_name z.name ≡ true) s.1 (named (slot t h).name q.1.1.0 (p.held h (slot t h) u))

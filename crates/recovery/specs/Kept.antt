@@ -1,7 +1,7 @@
 -- What a store keeps towards its ledger, and what a run gives by it.
-use Rattle.std.specs.Prelude.{◌≡◌, true}
+use Rattle.std.specs.Prelude.{◌≡◌, true, false}
 use Rattle.catalog.specs.Questions.{good_size}
-use Rattle.promise.specs.Table.{Table, Answer}
+use Rattle.promise.specs.Table.{Table, Call, Answer}
 use Rattle.promise.specs.Ledger.{Ledger, Sane}
 use Rattle.promise.specs.Promise.{View, Run, Whole}
 use Rattle.promise.specs.Calls.{Holds, Formatted, Did, Starts}
@@ -36,3 +36,14 @@ RunSize = (l : Ledger) (v : View) → Runs l v → good_size v.disk.size ≡ tru
 -- and it gives the whole promise to every Start
 abbrev pub RunPromise : Type 0
 RunPromise = (v : View) (a : Answer) (v' : View) → Starts Kept v a v' → Whole (Formatted Kept) (Did Kept) (Starts Kept) v a v'
+
+-- A STORE OF ANY ORIGIN: made waiting, over whatever disk; then any calls
+pub data Lives : View → Type 0 where
+  made : {v : View} → v.ready ≡ false → Lives v
+  formatted : {v v' : View} {a : Answer} → Lives v → Formatted Kept v a v' → Lives v'
+  turned : {v v' : View} {c : Call} {a : Answer} → Lives v → Did Kept v c a v' → Lives v'
+  started : {v v' : View} {a : Answer} → Lives v → Starts Kept v a v' → Lives v'
+
+-- whenever it is ready it holds a table, so that what its calls promise is never empty
+abbrev pub LivesHolds : Type 0
+LivesHolds = (v : View) → Lives v → v.ready ≡ true → (t : Table) × Holds v t

@@ -8,7 +8,8 @@ use Rattle.disk.specs.Meaning.{Contents, Meaning, In}
 use Rattle.disk.specs.Rules.{Settled}
 use Rattle.catalog.specs.Catalogs.{Extent, Catalog, plain_tree, entries, page_sectors, file_sectors, extents_sectors, bytes_of, Distinct}
 use Rattle.catalog.specs.Lays.{LaidAt, FileAt, root_sector}
-use Rattle.promise.specs.Table.{Slot, Anonymous, Delete, Register, Close}
+use Rattle.promise.specs.Table.{Slot, Anonymous, Table, Delete, Register, Close, first, before, Proper}
+use Rattle.promise.specs.Together.{Together}
 use Rattle.promise.specs.Ledger.{Ledger, slot_of, file_of, Sane}
 use Rattle.promise.specs.Promise.{name_of}
 use Rattle.recovery.specs.Picks.{Picks, with_sector, Steady}
@@ -119,3 +120,7 @@ pub record SaneGives : Type 0 where
       (e : Entry Key) → In e (but i l.names) → e.1 ≢ (slot_of l h).file
   pub register_alone : (l : Ledger) (h : ℕ) (x : Slot) → Sane l → slice_index_or l.slots h None ≡ Some x → x.sort ≡ Anonymous →
       (e : Entry Key) → In e l.names → e.1 ≢ (slot_of l h).file
+
+-- and what Register owes of its slot's name is granted by its questions
+abbrev pub RegisterNamed : Type 0
+RegisterNamed = (t : Table) (l : Ledger) (h : ℕ) → Proper t → Together t l → first (before t (Register h)) ≡ None → good_name (slot_of l h).name ≡ true

@@ -7,8 +7,9 @@ ghost use Rattle.recovery.specs.Wider.{WiderSteady, BreaksWider, CountsWider, Cl
 ghost use Rattle.recovery.specs.Harmless.{PutSteady, OutsideHarmless, DataHarmless, TableHarmless, WritingHarmless, WroteWider, LocalSteady};
 ghost use Rattle.recovery.specs.Turning.{PutTurns, StoppedRecoverable, TurningRecoverable, TurningSteady};
 ghost use Rattle.recovery.specs.Turning.{WipingRecoverable, FormatRecoverable, FormatSteady, RestartRecovers, StartedSteady};
-ghost use Rattle.recovery.specs.Owed.{DeleteTurns, RegisterTurns, CloseTurns, SaneGives};
-ghost use Rattle.recovery.specs.Kept.{RunKept, RunSize, RunPromise};
+ghost use Rattle.recovery.specs.Owed.{DeleteTurns, RegisterTurns, CloseTurns, SaneGives, RegisterNamed};
+ghost use Rattle.recovery.specs.Kept.{RunKept, RunSize, RunPromise, LivesHolds};
+ghost use Rattle.recovery.specs.Held.{LaidUsed, FreeOutside, OpenOwn};
 ghost use Rattle.recovery.specs.Keeping.{Keeps};
 ghost use Rattle.recovery.specs.Cards.{Cards};
 
@@ -75,6 +76,7 @@ pub fn owed_stand()
     ensures register { RegisterTurns }
     ensures close { CloseTurns }
     ensures ledger { SaneGives }
+    ensures name { RegisterNamed }
 {}
 
 /// A run keeps what its store keeps in each call, and so gives the whole promise to every Start.
@@ -82,6 +84,18 @@ pub fn run_stands()
     ensures kept { RunKept }
     ensures size { RunSize }
     ensures promise { RunPromise }
+{}
+
+/// A store of any origin holds a table whenever it is ready, so that its calls promise something.
+pub fn lives_stand()
+    ensures { LivesHolds }
+{}
+
+/// What a store's disk lays is in use, and so no free sector is the catalog's; what it lays of an open file is that file's own.
+pub fn held_stands()
+    ensures used { LaidUsed }
+    ensures free { FreeOutside }
+    ensures own { OpenOwn }
 {}
 
 /// What is left for each call so that it keeps what a store keeps.
