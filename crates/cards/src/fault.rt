@@ -1,8 +1,9 @@
 ghost use Rattle.std.specs.Prelude.{◌≡◌, Some};
-ghost use Rattle.cards.specs.declared.fault.CardFault.TheVariants.{Disk as of_disk};
+ghost use Rattle.cards.specs.declared.fault.CardFault.TheVariants.{Disk as of_disk, Full as too_full};
 ghost use Rattle.cards.specs.Texts.{card_fault_text};
 
 use disk::fault::DiskFault;
+use layout::codec::PageFull;
 use std::error::Error;
 use std::fmt;
 
@@ -24,6 +25,14 @@ impl From<DiskFault> for CardFault {
 
     fn from(fault: DiskFault) -> CardFault {
         CardFault::Disk(fault)
+    }
+}
+
+impl From<PageFull> for CardFault {
+    ghost from_gives = { λ _ r. r ≡ too_full };
+
+    fn from(_fault: PageFull) -> CardFault {
+        CardFault::Full
     }
 }
 
