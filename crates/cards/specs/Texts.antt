@@ -1,5 +1,5 @@
 -- What a refusal and an example print.
-use Rattle.std.specs.Prelude.{ℕ, List, ◌++◌, codes}
+use Rattle.std.specs.Prelude.{ℕ, List, ◌++◌, ◌≢◌, codes}
 use Rattle.disk.specs.Texts.{fault_text}
 use Rattle.cards.specs.declared.fault.CardFault.{CardFault}
 use Rattle.cards.specs.declared.fault.CardFault.TheVariants.{Disk, Full, Room, Name}
@@ -20,3 +20,7 @@ example_text Odd = codes "odd"
 example_text Long = codes "long"
 example_text TwoLevels = codes "two-levels"
 example_text ThreeLevels = codes "three-levels"
+
+-- no example has this name
+abbrev pub Unnamed : List ℕ → Type 0
+Unnamed text = (e : Example) → example_text e ≢ text

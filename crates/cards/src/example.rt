@@ -1,6 +1,6 @@
 //! Example cards, by their names.
 ghost use Rattle.std.specs.Prelude.{◌≡◌, Some, MatchOption};
-ghost use Rattle.cards.specs.Texts.{example_text};
+ghost use Rattle.cards.specs.Texts.{example_text, Unnamed};
 ghost use Rattle.cards.specs.Examples.{example_sectors};
 
 use crate::card::Card;
@@ -125,6 +125,21 @@ impl Example {
         Example::TwoLevels,
         Example::ThreeLevels,
     ];
+
+    /// The example of this name.
+    pub fn named(text: &str) -> Option<Example>
+        ensures { MatchOption result (Unnamed text.now) (λ e. example_text e ≡ text.now) }
+    {
+        match text {
+            "empty" => Some(Example::Empty),
+            "two-files" => Some(Example::TwoFiles),
+            "odd" => Some(Example::Odd),
+            "long" => Some(Example::Long),
+            "two-levels" => Some(Example::TwoLevels),
+            "three-levels" => Some(Example::ThreeLevels),
+            _ => None,
+        }
+    }
 
     /// The number of sectors of its image.
     pub fn sectors(self) -> usize
