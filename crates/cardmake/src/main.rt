@@ -10,6 +10,9 @@ use std::{env, fs};
 /// The file that is written.
 const IMAGE: &str = "volume.img";
 
+/// The names of the examples.
+const CARDS: &str = "empty, two-files, odd, long, two-levels, three-levels or four-levels";
+
 /// The number that a word of the command line says.
 fn number(word: &str) -> anyhow::Result<u32> {
     word.parse().context(format_args!("{word:?} is no number"))
@@ -29,7 +32,7 @@ fn write_over(card: &mut Card<'_>, edit: &[String]) -> anyhow::Result<()> {
 fn serve(rt: &HostRuntime) -> anyhow::Result<()> {
     let args: Vec<String> = env::args(rt)?.collect(rt.alloc())?;
     let [_, name, edits @ ..] = args.as_slice() else {
-        bail!("which card?");
+        bail!("which card: {CARDS}?");
     };
     let name = name.as_str();
     let example = Example::named(name).context(format_args!("there is no card {name:?}"))?;

@@ -4,7 +4,7 @@ use Rattle.disk.specs.Texts.{fault_text}
 use Rattle.cards.specs.declared.fault.CardFault.{CardFault}
 use Rattle.cards.specs.declared.fault.CardFault.TheVariants.{Disk, Full, Room, Name}
 use Rattle.cards.specs.declared.example.Example.{Example}
-use Rattle.cards.specs.declared.example.Example.TheVariants.{Empty, TwoFiles, Odd, Long, TwoLevels, ThreeLevels}
+use Rattle.cards.specs.declared.example.Example.TheVariants.{Empty, TwoFiles, Odd, Long, TwoLevels, ThreeLevels, FourLevels}
 
 abbrev pub card_fault_text : CardFault → List ℕ
 card_fault_text (Disk f) = codes "the image did not answer: " ++ fault_text f
@@ -20,6 +20,7 @@ example_text Odd = codes "odd"
 example_text Long = codes "long"
 example_text TwoLevels = codes "two-levels"
 example_text ThreeLevels = codes "three-levels"
+example_text FourLevels = codes "four-levels"
 
 -- no example has this name
 abbrev pub Unnamed : List ℕ → Type 0

@@ -16,7 +16,8 @@ use std::fmt;
 /// The sector of the root page.
 const ROOT: Sector = Sector(1);
 
-/// A card that is built for a test or a trial; each is sound.
+/// A card that is built for a test or a trial; each is sound. Byte p of a file is p mod 251, and file k of a directory of several levels
+/// has k mod 500 bytes.
 #[derive(Clone, Copy, PartialEq, Eq, Debug)]
 pub enum Example {
     /// no file
@@ -28,10 +29,12 @@ pub enum Example {
     Odd,
     /// Long.IR of 327,329 bytes in sectors 2 to 322, with its tables in 323 and 324
     Long,
-    /// a root of one entry over leaves of 12 in sectors 2 and 3, and files F000 to F024 from sector 4 on, of as many bytes as their numbers say
+    /// a root of one entry over leaves of 12 in sectors 2 and 3, and files F0000 to F0024 from sector 4 on
     TwoLevels,
-    /// a root of one entry over pages of 12 in sectors 2 and 3, over leaves of 12 in sectors 4 to 29, and files F000 to F336 from sector 30 on
+    /// a root of one entry over pages of 12 in sectors 2 and 3, over leaves of 12 in sectors 4 to 29, and files F0000 to F0336 from sector 30 on
     ThreeLevels,
+    /// the same with one level more: leaves of 12 in sectors 30 to 367, and files F0000 to F4392 from sector 368 on
+    FourLevels,
 }
 
 /// The directory of `TwoLevels`.
@@ -77,6 +80,38 @@ static THREE_LEVELS: [Level; 3] = [
     },
 ];
 
+/// The directory of `FourLevels`: below a page of its second level are 13 pages of its third and 12 entries, 2,196 names.
+static FOUR_LEVELS: [Level; 4] = [
+    Level {
+        at: ROOT,
+        pages: 1,
+        entries: 1,
+        below: 2196,
+        child: Some(Sector(2)),
+    },
+    Level {
+        at: Sector(2),
+        pages: 2,
+        entries: 12,
+        below: 168,
+        child: Some(Sector(4)),
+    },
+    Level {
+        at: Sector(4),
+        pages: 26,
+        entries: 12,
+        below: 12,
+        child: Some(Sector(30)),
+    },
+    Level {
+        at: Sector(30),
+        pages: 338,
+        entries: 12,
+        below: 0,
+        child: None,
+    },
+];
+
 /// A file that lies whole in sectors that follow one another.
 fn plan(text: &[u8], length: u32, first: u16, table: u16) -> Result<Plan, CardFault> {
     Ok(Plan {
@@ -101,6 +136,20 @@ fn put_files(card: &mut Card<'_>, files: &[Plan]) -> Result<(), CardFault> {
     card.put_page(ROOT, &root)
 }
 
+/// Puts a directory of several levels, and its files, which follow one another from a sector on.
+fn put_tree(
+    card: &mut Card<'_>,
+    levels: &[Level],
+    files_at: Sector,
+    files: u16,
+) -> Result<(), CardFault> {
+    let tree = Tree { files_at, files };
+    for level in levels {
+        tree.put_level(card, level)?;
+    }
+    tree.put_files(card)
+}
+
 /// Two files, and something wherever the format leaves it free what a byte holds.
 fn put_odd(card: &mut Card<'_>) -> Result<(), CardFault> {
     let nave = plan(b"Nave.IR", 66_000, 2, 67)?;
@@ -117,15 +166,6 @@ fn put_odd(card: &mut Card<'_>) -> Result<(), CardFault> {
 }
 
 impl Example {
-    pub const ALL: [Example; 6] = [
-        Example::Empty,
-        Example::TwoFiles,
-        Example::Odd,
-        Example::Long,
-        Example::TwoLevels,
-        Example::ThreeLevels,
-    ];
-
     /// The example of this name.
     pub fn named(text: &str) -> Option<Example>
         ensures { MatchOption result (Unnamed text.now) (λ e. example_text e ≡ text.now) }
@@ -137,6 +177,7 @@ impl Example {
             "long" => Some(Example::Long),
             "two-levels" => Some(Example::TwoLevels),
             "three-levels" => Some(Example::ThreeLevels),
+            "four-levels" => Some(Example::FourLevels),
             _ => None,
         }
     }
@@ -151,6 +192,7 @@ impl Example {
             Example::Long => 330,
             Example::TwoLevels => 40,
             Example::ThreeLevels => 400,
+            Example::FourLevels => 4800,
         }
     }
 
@@ -165,22 +207,9 @@ impl Example {
             }
             Example::Odd => put_odd(card),
             Example::Long => put_files(card, &[plan(b"Long.IR", 327_329, 2, 323)?]),
-            Example::TwoLevels => {
-                let tree = Tree {
-                    levels: &TWO_LEVELS,
-                    files_at: Sector(4),
-                    files: 25,
-                };
-                tree.put(card)
-            }
-            Example::ThreeLevels => {
-                let tree = Tree {
-                    levels: &THREE_LEVELS,
-                    files_at: Sector(30),
-                    files: 337,
-                };
-                tree.put(card)
-            }
+            Example::TwoLevels => put_tree(card, &TWO_LEVELS, Sector(4), 25),
+            Example::ThreeLevels => put_tree(card, &THREE_LEVELS, Sector(30), 337),
+            Example::FourLevels => put_tree(card, &FOUR_LEVELS, Sector(368), 4393),
         }
     }
 }
@@ -196,6 +225,7 @@ impl fmt::Display for Example {
             Example::Long => "long",
             Example::TwoLevels => "two-levels",
             Example::ThreeLevels => "three-levels",
+            Example::FourLevels => "four-levels",
         })
     }
 }

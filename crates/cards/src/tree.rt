@@ -21,11 +21,10 @@ pub(crate) struct Level {
     pub child: Option<Sector>,
 }
 
-/// A directory of several levels, with so many files that follow one another from sector `files_at` on in the order of names.
-/// File k has the name F and three digits of k, and k bytes.
+/// The files of a directory of several levels: so many that follow one another from sector `files_at` on in the order of names.
+/// File k has the name F and four digits of k, and k mod 500 bytes.
 #[derive(Clone, Copy)]
 pub(crate) struct Tree {
-    pub levels: &'static [Level],
     pub files_at: Sector,
     pub files: u16,
 }
@@ -37,10 +36,11 @@ fn digit(number: usize, place: usize) -> u8
     b'0' + (number / place % 10) as u8
 }
 
-/// The name of file `number`: F and three digits.
+/// The name of file `number`: F and four digits.
 fn name_at(number: usize) -> Result<Name, CardFault> {
     name_of(&[
         b'F',
+        digit(number, 1000),
         digit(number, 100),
         digit(number, 10),
         digit(number, 1),
@@ -87,7 +87,8 @@ impl Tree {
         Ok(page)
     }
 
-    fn put_level(&self, card: &mut Card<'_>, level: &Level) -> Result<(), CardFault> {
+    /// Puts the pages of a level to a card.
+    pub fn put_level(&self, card: &mut Card<'_>, level: &Level) -> Result<(), CardFault> {
         let mut walk = Walk {
             number: 0,
             child: level.child,
@@ -99,15 +100,12 @@ impl Tree {
         Ok(())
     }
 
-    /// Puts the pages and the files to a card.
-    pub fn put(&self, card: &mut Card<'_>) -> Result<(), CardFault> {
-        for level in self.levels {
-            self.put_level(card, level)?;
-        }
+    /// Puts the files to a card.
+    pub fn put_files(&self, card: &mut Card<'_>) -> Result<(), CardFault> {
         for number in 0..self.files {
             let file = Plan {
                 name: name_at(usize::from(number))?,
-                length: Length(u32::from(number)),
+                length: Length(u32::from(number % 500)),
                 first: nth(self.files_at, usize::from(number)),
                 table: Sector(0),
             };

@@ -1,7 +1,7 @@
 use crate::image_of;
 use cards::card::Card;
 use cards::example::Example;
-use cards::example::Example::{Empty, Long, Odd, ThreeLevels, TwoFiles, TwoLevels};
+use cards::example::Example::{Empty, FourLevels, Long, Odd, ThreeLevels, TwoFiles, TwoLevels};
 use cards::fault::CardFault;
 use catalog::fault::{LayoutFault, VolumeFault};
 use disk::image::Image;
@@ -38,7 +38,7 @@ const PAGE: u32 = 0x9B1EA38D;
 const FILE: u32 = 0x9BA71D86;
 
 /// The stored address of a sector is 29 times its number.
-static BROKEN: [Broken; 82] = [
+static BROKEN: [Broken; 83] = [
     // 11: the mark of the root, of another page and of a first sector; bytes 12 and 63 of a page
     (Empty, &[Word(1, 0, PAGE - 1)], 11, 1),
     (TwoFiles, &[Word(1, 0, FILE)], 11, 1),
@@ -113,13 +113,23 @@ static BROKEN: [Broken; 82] = [
     (Long, &[Word(323, 0, 29 * 323)], 14, 323),
     (Long, &[Word(323, 4, 29 * 66)], 14, 323),
     (Long, &[Word(324, 0, 29 * 66)], 14, 324),
-    // 15: a leaf above the first leaf, and one below it
+    // 15: a leaf above the first leaf, one below it, and a fifth level
     (ThreeLevels, &[Word(3, 8, 0)], 15, 3),
     (
         TwoLevels,
         &[Word(3, 8, 29 * 30), Word(30, 0, PAGE), Word(30, 4, 12)],
         15,
         30,
+    ),
+    (
+        FourLevels,
+        &[
+            Word(30, 8, 29 * 4799),
+            Word(4799, 0, PAGE),
+            Word(4799, 4, 12),
+        ],
+        15,
+        4799,
     ),
     // 16: no name, no letter first, a byte that no name has, something behind the first zero, no zero at all
     (TwoFiles, &[Bytes(1, 64, &[0])], 16, 1),
@@ -135,9 +145,9 @@ static BROKEN: [Broken; 82] = [
     // the same name as the last one, or a lower one, in a page and from page to page
     (TwoFiles, &[Bytes(1, 104, b"Foyer.IR")], 16, 1),
     (TwoFiles, &[Bytes(1, 104, b"Aall.IR")], 16, 1),
-    (TwoLevels, &[Bytes(1, 64, b"F011")], 16, 1),
-    (TwoLevels, &[Bytes(3, 64, b"F010")], 16, 3),
-    (ThreeLevels, &[Bytes(29, 64, b"F000")], 16, 29),
+    (TwoLevels, &[Bytes(1, 64, b"F0011")], 16, 1),
+    (TwoLevels, &[Bytes(3, 64, b"F0010")], 16, 3),
+    (ThreeLevels, &[Bytes(29, 64, b"F0000")], 16, 29),
     // 17: past the longest file, no byte in the last sector, more than a sector has, and less than the header in a first sector
     (TwoFiles, &[Word(2, 36, 3136)], 17, 2),
     (TwoFiles, &[Word(3, 40, 0)], 17, 3),

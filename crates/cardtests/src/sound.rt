@@ -22,8 +22,8 @@ fn row(text: &[u8], first: u16, length: u32) -> Result<FileRow, Fail> {
 /// The row of file `number` of a tree of files that follow one another from sector `first` on.
 fn tree_row(first: u16, number: u16) -> Result<FileRow, Fail> {
     let digit = |place: u16| b'0' + (number / place.max(1) % 10) as u8;
-    let text = [b'F', digit(100), digit(10), digit(1)];
-    row(&text, first.saturating_add(number), u32::from(number))
+    let text = [b'F', digit(1000), digit(100), digit(10), digit(1)];
+    row(&text, first.saturating_add(number), u32::from(number % 500))
 }
 
 /// Surveys a card, and compares the counts and the listing, as far as the rows reach.
@@ -110,9 +110,16 @@ fn levels(rt: HostRuntime) -> Result<(), Fail> {
         file_sectors: 337,
         free: 33,
     };
+    let four = Counts {
+        names: 4393,
+        pages: 367,
+        file_sectors: 4393,
+        free: 39,
+    };
     for (example, first, files, counts) in [
         (Example::TwoLevels, 4, 25, two),
         (Example::ThreeLevels, 30, 337, three),
+        (Example::FourLevels, 368, 4393, four),
     ] {
         let mut rows = Vec::new(rt.alloc());
         for number in 0..files {
@@ -133,7 +140,7 @@ fn bytes_of_files(rt: HostRuntime) -> Result<(), Fail> {
         (Example::TwoFiles, 3, 1000, 673), // one byte beyond the first sector
         (Example::Odd, 2, 66_000, 66_000),
         (Example::Long, 2, 327_329, 327_329), // up to the first byte that the second table leads to
-        (Example::ThreeLevels, 366, 336, 336),
+        (Example::FourLevels, 4760, 392, 392), // the last file, F4392
     ] {
         let mut image = image_of(rt.alloc(), example)?;
         let mut bytes = vec![in rt.alloc(); 0xFFu8; wanted]?;
