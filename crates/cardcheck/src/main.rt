@@ -4,20 +4,19 @@
 mod report;
 
 use anyhow::{Context, bail};
-use disk::image::Image;
-use report::{Line, Verdict};
+use disk::SECTOR_SIZE;
+use report::{Line, Verdict, judge};
 use std::io::Read;
 use std::process::ExitCode;
 use std::{env, fs};
-use survey::map::{MOST_SECTORS, SectorMap};
+use survey::map::MOST_SECTORS;
 use survey::row::FileRow;
-use survey::survey::survey;
 
 /// The card that is read where none is named.
 const IMAGE: &str = "volume.img";
 
 /// As many bytes as have to be read: a card of one sector more than there may be is refused, however much follows.
-const MOST_BYTES: usize = 1024 * (MOST_SECTORS + 1);
+const MOST_BYTES: usize = SECTOR_SIZE * (MOST_SECTORS + 1);
 
 /// The bytes of a card.
 fn read_card(rt: &HostRuntime, path: &str) -> anyhow::Result<Vec<u8>> {
@@ -29,24 +28,21 @@ fn read_card(rt: &HostRuntime, path: &str) -> anyhow::Result<Vec<u8>> {
     Ok(bytes)
 }
 
-/// Surveys a card and prints what it holds.
+/// Prints what a card holds, or what is wrong with it.
 fn tell(rt: &HostRuntime, card: &mut [u8]) -> anyhow::Result<ExitCode> {
-    // each name has a file of a sector at least
-    let mut rows = vec![in rt.alloc(); FileRow::default(); card.len() / 1024]?;
-    let mut map = SectorMap::new();
-    match survey(&mut Image::new(card), &mut map, &mut rows) {
-        Ok(counts) => {
-            for row in rows.iter().take(counts.names) {
-                println!(rt; "{}", Line(row))?;
-            }
-            println!(rt; "{}", Verdict::Sound(counts))?;
-            Ok(ExitCode::SUCCESS)
-        }
-        Err(fault) => {
-            println!(rt; "{}", Verdict::Broken(fault))?;
-            Ok(ExitCode::FAILURE)
+    // rows enough: each name has a file of a sector at least
+    let mut rows = vec![in rt.alloc(); FileRow::default(); card.len() / SECTOR_SIZE]?;
+    let verdict = judge(card, &mut rows);
+    if let Verdict::Sound(counts) = verdict {
+        for row in rows.iter().take(counts.names) {
+            println!(rt; "{}", Line(row))?;
         }
     }
+    println!(rt; "{verdict}")?;
+    Ok(match verdict {
+        Verdict::Sound(_) => ExitCode::SUCCESS,
+        Verdict::Broken(_) => ExitCode::FAILURE,
+    })
 }
 
 fn serve(rt: &HostRuntime) -> anyhow::Result<ExitCode> {

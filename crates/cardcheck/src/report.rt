@@ -1,10 +1,13 @@
 ghost use Rattle.std.specs.Prelude.{◌≡◌, Some};
+ghost use Rattle.cardcheck.specs.Judges.{Judges};
 ghost use Rattle.cardcheck.specs.Texts.{row_text, fault_sector, verdict_text};
 
 use catalog::fault::VolumeFault;
+use disk::image::Image;
 use std::{fmt, str};
+use survey::map::SectorMap;
 use survey::row::FileRow;
-use survey::survey::Counts;
+use survey::survey::{Counts, survey};
 
 /// A file of a listing.
 #[derive(Clone, Copy)]
@@ -26,6 +29,17 @@ impl fmt::Display for Line<'_> {
 pub(crate) enum Verdict {
     Sound(Counts),
     Broken(VolumeFault),
+}
+
+/// Surveys a card, and lists its files over the rows, as far as they reach.
+pub(crate) fn judge(card: &mut [u8], rows: &mut [FileRow]) -> Verdict
+    ensures { Judges card.old rows.old result card.new rows.new }
+{
+    let mut map = SectorMap::new();
+    match survey(&mut Image::new(card), &mut map, rows) {
+        Ok(counts) => Verdict::Sound(counts),
+        Err(fault) => Verdict::Broken(fault),
+    }
 }
 
 /// The sector that held what was asked, or that the disk was asked for; 0 where there is none.

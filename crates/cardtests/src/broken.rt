@@ -1,4 +1,4 @@
-use crate::image_of;
+use crate::images::image_of;
 use cards::card::Card;
 use cards::example::Example;
 use cards::example::Example::{Empty, FourLevels, Long, Odd, ThreeLevels, TwoFiles, TwoLevels};
