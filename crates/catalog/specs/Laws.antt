@@ -1,15 +1,18 @@
--- Laws of the layout: what is found is what is laid, and which contents are read.
-use Rattle.std.specs.Prelude.{◌≡◌, ℕ, zero, suc, ◌+◌, ◌*◌, ◌/◌, ◌<◌, ◌↔◌, true, cond, List, ◌∷◌, ◌++◌, length, take, reverse, Ok, Err, slice_index}
-use Rattle.numbers.specs.Names.{Key}
-use Rattle.numbers.specs.Lengths.{header_size, near_sectors, table_sectors}
-use Rattle.numbers.specs.Sectors.{address_step, leads}
+-- Laws of the layout: what is found is what is laid, which contents are read, and what is written is laid.
+use Rattle.std.specs.Prelude.{◌≡◌, ℕ, zero, suc, ◌+◌, ◌*◌, ◌/◌, ◌^◌, ◌<◌, ◌≤◌, ◌⊎◌, ◌↔◌, true, cond, List, ◌∷◌, ◌++◌, length, take, reverse, Ok, Err, slice_index, slice_index_or}
+use Rattle.numbers.specs.Names.{Key, name_size}
+use Rattle.numbers.specs.Lengths.{sector_size, header_size, near_sectors, table_sectors, longest, last_sector, tables}
+use Rattle.numbers.specs.Sectors.{address_step, address, leads}
 use Rattle.layout.specs.Words.{word_size, word}
-use Rattle.layout.specs.Entries.{first_at}
-use Rattle.tree.specs.Tree.{Entry, most_levels}
+use Rattle.layout.specs.Entries.{first_at, most_entries}
+use Rattle.layout.specs.Pages.{page_bytes}
+use Rattle.layout.specs.Headers.{header_bytes, IsHeader}
+use Rattle.tree.specs.Tree.{Entry, Item, item, Page, page, most_levels, All}
 use Rattle.disk.specs.Meaning.{Contents, In}
 use Rattle.catalog.specs.declared.fault.LayoutFault.{LayoutFault}
-use Rattle.catalog.specs.Catalogs.{Extent, Catalog, Distinct, Divided, entries, page_sectors, file_sectors, free_sectors, rows}
-use Rattle.catalog.specs.Lays.{Lays, root_sector}
+use Rattle.catalog.specs.Catalogs.{Laid, Extent, Catalog, Distinct, Divided, entries, page_sectors, file_sectors, free_sectors, rows}
+use Rattle.catalog.specs.Lays.{Lays, root_sector, under, PageAt, FileAt}
+use Rattle.catalog.specs.Written.{page_data, header_of}
 use Rattle.catalog.specs.Questions.{good_size, Sofar, ask_page, leaf_level, asked, found, catalog, file_found}
 
 -- each sector of the disk has 1,024 bytes
@@ -79,3 +82,37 @@ pub data Named (e : Entry Key) (x : Extent) : List (Entry Key) → List Extent �
 abbrev pub FileAlone : Type 0
 FileAlone = (size : ℕ) (shown : ℕ → Contents) (c : Catalog) (e : Entry Key) (x : Extent) → good_size size ≡ true → Lays size shown c → Named e x (entries c) c.files →
     file_found size shown e.1 ≡ Ok x
+
+-- WRITTEN. A page can be written if it has at most 24 entries, its names fit their fields and its addresses 32 bits
+abbrev pub ItemFits : (n : ℕ) → Item Key (Laid n) → Type 0
+ItemFits n (item e d) = (length e.0 ≤ name_size) × (address e.1 < 2 ^ 32) × (under n d < 2 ^ 32)
+
+abbrev pub PageFits : (n : ℕ) → Page Key (Laid n) → Type 0
+PageFits n (page d xs) = (length xs ≤ most_entries) × (under n d < 2 ^ 32) × All (ItemFits n) xs
+
+-- as it is written it is laid, and fills its sector
+abbrev pub PageWritten : Type 0
+PageWritten = (n : ℕ) (p : Page Key (Laid n)) → PageFits n p → PageAt n (page_bytes (page_data n p)) p × (length (page_bytes (page_data n p)) ≡ sector_size)
+
+-- a file can be written under a name if the name fits its field, the file has the sectors and tables of its length, and the addresses fit
+pub record FileFits (name : Key) (x : Extent) : Type 0 where
+  pub short : length name ≤ name_size
+  pub fits : x.long ≤ longest
+  pub parts : length x.parts ≡ 1 + last_sector x.long
+  pub tabs : length x.tabs ≡ tables (last_sector x.long)
+  pub small : (s : ℕ) → In s x.parts ⊎ In s x.tabs → address s < 2 ^ 32
+
+-- its header is one as its type has it
+abbrev pub HeaderTyped : Type 0
+HeaderTyped = (name : Key) (x : Extent) → FileFits name x → IsHeader (header_of name x)
+
+-- the first sector begins with the header, and the tables have their words in use
+pub record HeaderAt (shown : ℕ → Contents) (s : ℕ) (name : Key) (x : Extent) : Type 0 where
+  pub first : slice_index_or x.parts 0 0 ≡ s
+  pub head : take header_size (shown s) ≡ header_bytes (header_of name x)
+  pub far : (k j : ℕ) → j < table_sectors → near_sectors + table_sectors * k + j < length x.parts →
+      word (shown (slice_index x.tabs k)) (word_size * j) ≡ address (slice_index x.parts (near_sectors + table_sectors * k + j))
+
+-- then the file is laid
+abbrev pub HeadWritten : Type 0
+HeadWritten = (shown : ℕ → Contents) (s : ℕ) (name : Key) (x : Extent) → FileFits name x → HeaderAt shown s name x → FileAt shown s x

@@ -3,5 +3,6 @@ pub mod Texts
 pub mod Catalogs
 pub mod Lays
 pub mod Questions
-pub mod Laws
 pub mod Written
+pub mod Laws
+pub mod Examples

@@ -1,6 +1,7 @@
 //! A volume's questions put to a disk: what it holds, or the first no.
 #![tactic(auto)]
 
+pub mod asks;
 pub mod file;
 pub mod findings;
 pub mod map;

@@ -1,4 +1,9 @@
 //! The questions of a page of the directory, with all below it.
+ghost use Rattle.std.specs.Prelude.{◌≡◌, ◌<◌, ◌≤◌, ◌-◌, not, ◌&&◌, ◌||◌, ◌==◌, nat_le, IfOk};
+ghost use Rattle.tree.specs.Tree.{most_levels};
+ghost use Rattle.catalog.specs.Questions.{kind_at, ask_page as page_questions};
+ghost use Rattle.survey.specs.Asks.{Memory, Tells, Surveyed, Levelled, told, told_layout, top_asks, TopOf, entry_asks, below_asks};
+
 use crate::file::ask_file;
 use crate::findings::Findings;
 use crate::row::FileRow;
@@ -25,7 +30,11 @@ pub(crate) struct Place {
 }
 
 /// The level of the first leaf: down the addresses of first children as long as they lead to a sector, four times at most.
-pub(crate) fn leaf_level<D: Disk>(disk: &mut D, size: u16) -> Result<u32, VolumeFault> {
+pub(crate) fn leaf_level<D: Disk>(disk: &mut D, size: u16) -> Result<u32, VolumeFault>
+    requires size { size ≡ (D.Disk.meaning disk.old).size }
+    requires inside { 1 < size }
+    ensures { Levelled D.Disk.meaning D.Disk.does disk.old result disk.new }
+{
     let mut bytes = blank_sector();
     let mut page = ROOT;
     for level in 1..MOST_LEVELS + 1 {
@@ -39,20 +48,32 @@ pub(crate) fn leaf_level<D: Disk>(disk: &mut D, size: u16) -> Result<u32, Volume
     Ok(MOST_LEVELS + 1)
 }
 
+/// The kind of a page on a level.
+fn kind_at(level: u32) -> PageKind
+    ensures { result ≡ kind_at level }
+{
+    if level == 1 { PageKind::Root } else { PageKind::Other }
+}
+
+/// Is the page on level 1 to 4, and on level `leaf_level` if it is a leaf?
+fn is_on_level(level: u32, leaf: bool, leaf_level: u32) -> bool
+    ensures { result ≡ (nat_le level most_levels && (not leaf || level == leaf_level)) }
+{
+    level <= MOST_LEVELS && (!leaf || level == leaf_level)
+}
+
 /// Asks a page for its mark and its zeros, its number of entries, and its level.
-fn ask_top(bytes: &SectorBytes, leaf_level: u32, place: Place) -> Result<PageHead, LayoutFault> {
+fn ask_top(bytes: &SectorBytes, leaf_level: u32, place: Place) -> Result<PageHead, LayoutFault>
+    ensures told { (x : Memory) → Tells x (λ w. top_asks bytes.now leaf_level place.level place.page.0) (told_layout result) x }
+    ensures top { IfOk result (TopOf bytes.now place.level) }
+{
     let Ok(head) = PageHead::read(bytes) else {
         return Err(LayoutFault::BadMark(place.page));
     };
-    let kind = if place.level == 1 {
-        PageKind::Root
-    } else {
-        PageKind::Other
-    };
-    if head.check_count(kind).is_err() {
+    if head.check_count(kind_at(place.level)).is_err() {
         return Err(LayoutFault::BadCount(place.page));
     }
-    if place.level > MOST_LEVELS || (head.is_leaf() && place.level != leaf_level) {
+    if !is_on_level(place.level, head.is_leaf(), leaf_level) {
         return Err(LayoutFault::BadLevel(place.page));
     }
     Ok(head)
@@ -65,7 +86,9 @@ fn ask_entry<D: Disk>(
     rows: &mut [FileRow],
     page: Sector,
     entry: &StoredEntry,
-) -> Result<(), VolumeFault> {
+) -> Result<(), VolumeFault>
+    ensures { Surveyed D.Disk.meaning D.Disk.does disk.old (record { found = findings.old; rows = rows.old }) (entry_asks page.0 entry.now.name.bytes entry.now.file.0) (told result) disk.new (record { found = findings.new; rows = rows.new }) }
+{
     let name = findings.rise(page, entry.name.bytes)?;
     let first = findings.follow(page, entry.file)?;
     let length = ask_file(disk, findings, first)?;
@@ -89,7 +112,10 @@ fn ask_below<D: Disk>(
     parent: Place,
     address: Address,
     due: bool,
-) -> Result<(), VolumeFault> {
+) -> Result<(), VolumeFault>
+    requires { parent.level ≤ most_levels }
+    ensures { Surveyed D.Disk.meaning D.Disk.does disk.old (record { found = findings.old; rows = rows.old }) (below_asks parent.level due parent.page.0 address.0) (told result) disk.new (record { found = findings.new; rows = rows.new }) }
+{
     match findings.link(parent.page, address, due)? {
         Some(page) => ask_page(
             disk,
@@ -111,7 +137,11 @@ pub(crate) fn ask_page<D: Disk>(
     findings: &mut Findings,
     rows: &mut [FileRow],
     place: Place,
-) -> Result<(), VolumeFault> {
+) -> Result<(), VolumeFault>
+    requires level { place.level ≤ 5 }
+    requires inside { place.page.0 < findings.old.size }
+    ensures { Surveyed D.Disk.meaning D.Disk.does disk.old (record { found = findings.old; rows = rows.old }) (λ w. page_questions w.size w.shown w.deep (6 - place.level) place.level place.page.0) (told result) disk.new (record { found = findings.new; rows = rows.new }) }
+{
     let mut bytes = blank_sector();
     disk.get(usize::from(place.page.0), &mut bytes)?;
     let head = ask_top(&bytes, findings.leaf_level, place)?;

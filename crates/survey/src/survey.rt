@@ -1,4 +1,10 @@
 //! A whole volume surveyed, and one file read.
+ghost use Rattle.std.specs.Prelude.{◌≡◌, ◌+◌, ◌<◌, ◌≤◌, ◌-◌, true, false, MatchResult};
+ghost use Rattle.catalog.specs.declared.fault.LayoutFault.TheVariants.{BadSize};
+ghost use Rattle.catalog.specs.Questions.{good_size};
+ghost use Rattle.survey.specs.Lines.{met_count};
+ghost use Rattle.survey.specs.Surveys.{Surveys};
+
 use crate::file::{ask_links, read_head};
 use crate::findings::Findings;
 use crate::map::{MOST_SECTORS, SectorMap};
@@ -23,7 +29,9 @@ pub struct Counts {
 }
 
 /// Asks the number of sectors of a disk.
-fn ask_size(size: usize) -> Result<u16, LayoutFault> {
+fn ask_size(size: usize) -> Result<u16, LayoutFault>
+    ensures { MatchResult result (λ n. (good_size size ≡ true) × (n ≡ size)) (λ e. (good_size size ≡ false) × (e ≡ BadSize)) }
+{
     if size < FEWEST_SECTORS || size > MOST_SECTORS {
         return Err(LayoutFault::BadSize);
     }
@@ -32,7 +40,14 @@ fn ask_size(size: usize) -> Result<u16, LayoutFault> {
 
 impl Counts {
     /// What was counted, of a volume that passed its questions.
-    fn of(findings: &Findings) -> Counts {
+    fn of(findings: &Findings) -> Counts
+        requires files { findings.now.file_sectors ≤ met_count findings.now.map.met }
+        requires inside { met_count findings.now.map.met < findings.now.size }
+        ensures names { result.names ≡ findings.now.names }
+        ensures pages { result.pages + findings.now.file_sectors ≡ met_count findings.now.map.met }
+        ensures files { result.file_sectors ≡ findings.now.file_sectors }
+        ensures free { result.free + 1 + met_count findings.now.map.met ≡ findings.now.size }
+    {
         let met = findings.map.count();
         Counts {
             names: findings.names,
@@ -49,7 +64,9 @@ pub fn survey<D: Disk>(
     disk: &mut D,
     map: &mut SectorMap,
     rows: &mut [FileRow],
-) -> Result<Counts, VolumeFault> {
+) -> Result<Counts, VolumeFault>
+    ensures { Surveys D.Disk.meaning D.Disk.does disk.old rows.old result disk.new map.new.met rows.new }
+{
     *map = SectorMap::new();
     let size = ask_size(disk.size())?;
     let leaf_level = leaf_level(disk, size)?;

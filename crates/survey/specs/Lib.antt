@@ -1,0 +1,4 @@
+pub mod Lines
+pub mod Reads
+pub mod Surveys
+pub mod Asks
