@@ -7,7 +7,6 @@ use Rattle.catalog.specs.Texts.{volume_fault_text}
 use Rattle.catalog.specs.declared.fault.VolumeFault.{VolumeFault}
 use Rattle.catalog.specs.declared.fault.VolumeFault.TheVariants.{Disk, Layout}
 use Rattle.survey.specs.declared.row.FileRow.{FileRow}
-use Rattle.survey.specs.declared.survey.Counts.{Counts}
 use Rattle.cardcheck.specs.declared.report.Verdict.{Verdict}
 use Rattle.cardcheck.specs.declared.report.Verdict.TheVariants.{Sound, Broken}
 

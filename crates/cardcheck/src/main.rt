@@ -5,6 +5,7 @@ mod report;
 
 use anyhow::{Context, bail};
 use disk::SECTOR_SIZE;
+use disk::image::Image;
 use report::{Line, Verdict, judge};
 use std::io::Read;
 use std::process::ExitCode;
@@ -32,7 +33,7 @@ fn read_card(rt: &HostRuntime, path: &str) -> anyhow::Result<Vec<u8>> {
 fn tell(rt: &HostRuntime, card: &mut [u8]) -> anyhow::Result<ExitCode> {
     // rows enough: each name has a file of a sector at least
     let mut rows = vec![in rt.alloc(); FileRow::default(); card.len() / SECTOR_SIZE]?;
-    let verdict = judge(card, &mut rows);
+    let verdict = judge(&mut Image::new(card), &mut rows);
     if let Verdict::Sound(counts) = verdict {
         for row in rows.iter().take(counts.names) {
             println!(rt; "{}", Line(row))?;

@@ -32,11 +32,11 @@ pub(crate) enum Verdict {
 }
 
 /// Surveys a card, and lists its files over the rows, as far as they reach.
-pub(crate) fn judge(card: &mut [u8], rows: &mut [FileRow]) -> Verdict
-    ensures { Judges card.old rows.old result card.new rows.new }
+pub(crate) fn judge(card: &mut Image<'_>, rows: &mut [FileRow]) -> Verdict
+    ensures { Judges card.old.bytes.now rows.old result card.new.bytes.now rows.new }
 {
     let mut map = SectorMap::new();
-    match survey(&mut Image::new(card), &mut map, rows) {
+    match survey(card, &mut map, rows) {
         Ok(counts) => Verdict::Sound(counts),
         Err(fault) => Verdict::Broken(fault),
     }
