@@ -1,7 +1,7 @@
 -- Sectors met, and those of files, counted.
-use Rattle.std.proofs.Common.{◌≡◌, zero-add, ℕ, zero, suc, ◌+◌, ◌<◌, ◌≤◌, Bool, true, false, cond, ◌||◌, eqb, ◌⊎◌, inl, inr, List, [], ◌∷◌, ◌++◌, length, reverse, map, get_or, set, sum_by, sym, refl, ap, ◌∙◌, subst, add_comm, arith}
+use Rattle.std.proofs.Common.{◌≡◌, zero-add, ℕ, suc, ◌+◌, ◌<◌, ◌≤◌, Bool, true, false, cond, ◌||◌, eqb, ◌⊎◌, inl, inr, List, [], ◌∷◌, ◌++◌, length, reverse, get_or, set, sum_by, sym, refl, ap, ◌∙◌, add_comm, arith}
 use Rattle.std.proofs.lemmas.Bool.{eqb-true, eqb-false, eq-eqb, both_ways, cases_lt, cases_Bool}
-use Rattle.std.proofs.lemmas.List.{length-append, length-set, get_or-set_same, get_or-set_other, reverse-append}
+use Rattle.std.proofs.lemmas.List.{length-append, get_or-set_same, get_or-set_other, reverse-append}
 use Rattle.std.proofs.Math.ListN.{get_or-eq_default}
 use Rattle.std.proofs.lemmas.List.Sums.{sum_by-cons, sum_by-set, sum_by-append}
 use Rattle.numbers.specs.Names.{Key}
@@ -9,7 +9,7 @@ use Rattle.numbers.specs.Lengths.{sectors, last_sector, tables}
 use Rattle.tree.specs.Tree.{Entry}
 use Rattle.disk.specs.Meaning.{Contents, In}
 use Rattle.catalog.specs.Catalogs.{Extent, Row, member, Distinct, rows_of, extents_sectors}
-use Rattle.catalog.specs.Lays.{FileAt, FilesAt}
+use Rattle.catalog.specs.Lays.{FilesAt}
 use Rattle.survey.specs.Lines.{is_met, met_count}
 
 -- MEMBERS of a list

@@ -1,24 +1,23 @@
 -- A file's questions, in parts.
-use Rattle.std.proofs.Common.{◌≡◌, not, zero-add, ℕ, zero, suc, ◌+◌, ◌-◌, ◌*◌, ◌/◌, ◌<◌, ◌≤◌, Bool, true, false, cond, eqb, leb, ltb, ◌&&◌, ◌||◌, List, [], ◌∷◌, length, get_or, map, Some, None, Ok, Err, Option, Result, sym, refl, ap, ◌∙◌, subst, arith}
-use mathlib.Core.Path.{fun_ext}
+use Rattle.std.proofs.Common.{◌≡◌, not, zero-add, ℕ, zero, suc, ◌+◌, ◌*◌, ◌<◌, ◌≤◌, Bool, true, false, cond, eqb, leb, ltb, List, get_or, Some, None, Ok, Err, Option, sym, refl, ap, ◌∙◌, subst, arith}
 use Rattle.std.proofs.lemmas.Bool.{cond-true, cond-false, le-leb, lt-leb}
 use Rattle.disk.specs.Meaning.{Contents, Meaning}
 use Rattle.disk.specs.Rules.{Answer, Request}
 use Rattle.numbers.specs.declared.sector.Address.{Address}
 use Rattle.numbers.specs.declared.sector.Sector.{Sector}
-use Rattle.numbers.specs.Lengths.{good_end, near_sectors, table_sectors, most_tables, longest, last_sector, length_of, tables}
+use Rattle.numbers.specs.Lengths.{near_sectors, table_sectors, most_tables, longest, last_sector, length_of, tables}
 use Rattle.numbers.proofs.Sizes.{only}
 use Rattle.numbers.specs.Sectors.{address}
 use Rattle.layout.specs.declared.header.Header.{Header}
 use Rattle.layout.specs.declared.header.HeaderFault.{HeaderFault}
 use Rattle.layout.specs.declared.header.HeaderFault.TheVariants.{Mark, End, Link}
 use Rattle.layout.specs.Words.{word_size, word}
-use Rattle.layout.specs.Headers.{file_mark, mark_at, last_at, used_at, near_at, tables_at, fields_in, read_header, addresses_in}
+use Rattle.layout.specs.Headers.{last_at, used_at, near_at, tables_at, read_header, addresses_in}
 use Rattle.catalog.specs.declared.fault.LayoutFault.{LayoutFault}
 use Rattle.catalog.specs.declared.fault.LayoutFault.TheVariants.{BadMark, BadAddress, BadLength}
 use Rattle.catalog.specs.declared.fault.VolumeFault.{VolumeFault}
 use Rattle.catalog.specs.declared.fault.VolumeFault.TheVariants.{Layout}
-use Rattle.catalog.specs.Questions.{Step, ask, ◌▸◌, done, each, at, link, ask_table, ask_file}
+use Rattle.catalog.specs.Questions.{Step, ask, ◌▸◌, done, link, ask_table, ask_file}
 use Rattle.survey.specs.declared.findings.Findings.{Findings}
 use Rattle.survey.specs.Asks.{World, Memory, Done, yes, Asked, Tells, Surveyed, IsShown, Led, address_asks, HeaderOf, head_fault, head_asks, entry_turn, near_turn, near_asks, table_turn, table_asks}
 use Rattle.survey.proofs.Steps.{then, stop, ask_yes, ask_no, grouped, run, run_all}

@@ -1,22 +1,21 @@
 -- Down to the first leaf.
-use Rattle.std.proofs.Common.{◌≡◌, ℕ, zero, suc, ◌+◌, ◌-◌, ◌*◌, ◌/◌, ◌%◌, ◌<◌, ◌≤◌, Bool, true, false, cond, eqb, leb, ltb, ◌&&◌, List, MatchOption, Some, None, Ok, Err, Option, Result, sym, refl, ap, ◌∙◌, subst, arith}
+use Rattle.std.proofs.Common.{◌≡◌, ℕ, suc, ◌+◌, ◌-◌, ◌/◌, ◌%◌, ◌<◌, ◌≤◌, Bool, true, false, cond, eqb, MatchOption, Some, None, Ok, Err, Option, sym, refl, ap, ◌∙◌, subst, arith}
 use Rattle.std.proofs.lemmas.Bool.{cond-true, cond-false, and_parts, ltb-true}
 use Rattle.disk.specs.declared.fault.DiskFault.{DiskFault}
 use Rattle.disk.specs.Meaning.{Contents, Meaning}
 use Rattle.disk.specs.Rules.{Answer, Request, Gets}
 use Rattle.disk.specs.Rules.Request.{getting}
 use Rattle.numbers.specs.declared.sector.Sector.{Sector}
-use Rattle.numbers.specs.Sectors.{address_step, first_linked, leads, sector_at}
+use Rattle.numbers.specs.Sectors.{address_step, leads, sector_at}
 use Rattle.layout.specs.Words.{sector_size, word_size, word}
 use Rattle.layout.specs.Entries.{first_at}
-use Rattle.catalog.specs.declared.fault.VolumeFault.{VolumeFault}
 use Rattle.catalog.specs.declared.fault.VolumeFault.TheVariants.{Disk}
 use Rattle.catalog.specs.Laws.{last_level}
 use Rattle.catalog.specs.Lays.{root_sector}
 use Rattle.tree.specs.Tree.{most_levels}
 use Rattle.survey.specs.Reads.{Reads, ReadOnly}
-use Rattle.survey.specs.Reads.Reads.{none, more}
-use Rattle.survey.specs.Asks.{Leaves, Levelled, LevelIs, Faults, told}
+use Rattle.survey.specs.Reads.Reads.{more}
+use Rattle.survey.specs.Asks.{Levelled}
 use Rattle.survey.proofs.Tellings.{read-same, read-then, read-got, leaves-then, faults, gone-inside}
 
 -- so far down, on level and at page s: m was the disk before, m' it is now

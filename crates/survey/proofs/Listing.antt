@@ -1,5 +1,5 @@
 -- Names that rise, and the listing.
-use Rattle.std.proofs.Common.{◌≡◌, ◌||◌, eqb, replicate, is_gt, add_comm, ℕ, zero, suc, ◌+◌, ◌<◌, ◌≤◌, Bool, true, false, ◌&&◌, List, [], ◌∷◌, ◌++◌, length, reverse, get_or, set, map, Some, None, Ok, Err, Option, Result, sym, refl, ap, ◌∙◌, subst, arith}
+use Rattle.std.proofs.Common.{◌≡◌, ◌||◌, eqb, replicate, is_gt, add_comm, ℕ, zero, suc, ◌+◌, ◌<◌, Bool, true, false, ◌&&◌, List, [], ◌∷◌, ◌++◌, length, reverse, get_or, set, Some, None, Err, Option, sym, refl, ap, ◌∙◌, subst, arith}
 use Rattle.std.proofs.lemmas.List.{length-map, length-reverse, length-replicate, map-append, reverse-append, get_or-set_same, get_or-set_other}
 use Rattle.std.proofs.lemmas.List.Sums.{sum_by-cons}
 use Rattle.std.proofs.lemmas.Bool.{and_from, cond-true, cond-false, eqb-true, eqb-false}
@@ -12,12 +12,12 @@ use Rattle.numbers.specs.declared.sector.Sector.{Sector}
 use Rattle.numbers.specs.Order.{Cmp, below, same, above, cmp}
 use Rattle.catalog.specs.declared.fault.LayoutFault.TheVariants.{BadEntry}
 use Rattle.catalog.specs.declared.fault.VolumeFault.TheVariants.{Layout}
-use Rattle.catalog.specs.Questions.{most_sectors, Sofar, rise, list, is_above, at}
+use Rattle.catalog.specs.Questions.{most_sectors, rise, list, is_above}
 use Rattle.catalog.specs.Catalogs.{Row, member, overlaid}
 use Rattle.survey.specs.declared.row.FileRow.{FileRow}
 use Rattle.survey.specs.declared.map.SectorMap.{SectorMap}
 use Rattle.survey.specs.Lines.{line, lines, is_met, none_met}
-use Rattle.survey.specs.Asks.{World, Memory, Stands, Done, LastIs, yes, Agrees, Asked}
+use Rattle.survey.specs.Asks.{World, Memory, LastIs, yes, Agrees, Asked}
 
 -- THE LISTING. One line more
 pub overlaid_more : (front t : List FileRow) (a : FileRow) → overlaid (front ++ a ∷ []) t ≡ set (overlaid front t) (length front) a

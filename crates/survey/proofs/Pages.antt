@@ -1,20 +1,20 @@
 -- A page's questions, in parts.
-use Rattle.std.proofs.Common.{◌≡◌, zero-add, ℕ, zero, suc, ◌+◌, ◌-◌, ◌*◌, ◌/◌, ◌<◌, ◌≤◌, Bool, true, false, cond, not, eqb, leb, ltb, ◌&&◌, ◌||◌, List, [], ◌∷◌, length, get_or, take, drop, map, MatchOption, MatchResult, Some, None, Ok, Err, Option, Result, is_err, sym, refl, ap, ◌∙◌, subst, arith}
-use Rattle.std.proofs.lemmas.Bool.{cond-true, cond-false, and_parts, leb-true}
+use Rattle.std.proofs.Common.{◌≡◌, zero-add, ℕ, suc, ◌+◌, ◌-◌, ◌/◌, ◌<◌, ◌≤◌, Bool, true, false, cond, not, eqb, leb, ◌&&◌, ◌||◌, List, MatchOption, MatchResult, Some, None, Ok, Err, Option, Result, is_err, sym, refl, ap, ◌∙◌, subst, arith}
+use Rattle.std.proofs.lemmas.Bool.{and_parts, leb-true}
 use Rattle.disk.specs.Meaning.{Contents, Meaning}
 use Rattle.disk.specs.Rules.{Answer, Request, Gets}
 use Rattle.disk.specs.Rules.Request.{getting}
 use Rattle.numbers.specs.declared.sector.Sector.{Sector}
 use Rattle.numbers.specs.Lengths.{length_of}
 use Rattle.numbers.specs.Sectors.{address_step}
-use Rattle.numbers.specs.Names.{name_size, every, name_in}
+use Rattle.numbers.specs.Names.{name_size, name_in}
 use Rattle.layout.specs.declared.entry.PageHead.{PageHead}
 use Rattle.layout.specs.declared.entry.StoredEntry.{StoredEntry}
 use Rattle.layout.specs.declared.entry.PageKind.{PageKind}
 use Rattle.layout.specs.declared.entry.PageFault.{PageFault}
 use Rattle.layout.specs.declared.entry.PageFault.TheVariants.{Mark}
 use Rattle.layout.specs.Words.{word, part}
-use Rattle.layout.specs.Entries.{page_mark, page_mark_at, count_at, first_at, zeros_at, entries_at, most_entries, entry_at, file_at, below_at, least_of, count_fits, count_fault, head_in, is_leaf, stored_in}
+use Rattle.layout.specs.Entries.{count_at, first_at, most_entries, entry_at, file_at, below_at, least_of, count_fits, count_fault, head_in, is_leaf, stored_in}
 use Rattle.layout.specs.Headers.{last_at, used_at}
 use Rattle.tree.specs.Tree.{most_levels}
 use Rattle.catalog.specs.declared.fault.LayoutFault.{LayoutFault}

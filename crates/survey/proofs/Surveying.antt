@@ -1,5 +1,5 @@
 -- From the questions asked to what a survey answers.
-use Rattle.std.proofs.Common.{◌≡◌, ℕ, zero, suc, ◌+◌, ◌-◌, ◌<◌, ◌≤◌, Bool, true, false, ◌↔◌, List, [], ◌∷◌, ◌++◌, length, reverse, get_or, replicate, sum_by, Ok, Err, Result, sym, refl, ap, ◌∙◌, subst, arith}
+use Rattle.std.proofs.Common.{◌≡◌, ℕ, zero, suc, ◌+◌, ◌-◌, ◌<◌, ◌≤◌, Bool, true, false, List, ◌++◌, length, get_or, replicate, sum_by, Ok, Err, Result, sym, refl, ap, ◌∙◌, arith}
 use Rattle.std.proofs.lemmas.Bool.{and_parts, leb-true}
 use Rattle.std.proofs.lemmas.List.{length-reverse}
 use Rattle.disk.specs.declared.fault.Cause.{Cause}
@@ -12,10 +12,10 @@ use Rattle.catalog.specs.declared.fault.LayoutFault.{LayoutFault}
 use Rattle.catalog.specs.declared.fault.LayoutFault.TheVariants.{BadSize}
 use Rattle.catalog.specs.declared.fault.VolumeFault.{VolumeFault}
 use Rattle.catalog.specs.declared.fault.VolumeFault.TheVariants.{Disk, Layout}
-use Rattle.catalog.specs.Catalogs.{Row, member, entries, page_sectors, file_sectors, free_sectors, rows, overlaid}
+use Rattle.catalog.specs.Catalogs.{Row, entries, page_sectors, file_sectors, free_sectors, rows, overlaid}
 use Rattle.catalog.specs.Lays.{Lays, root_sector}
 use Rattle.catalog.specs.Laws.{Sized, last_level}
-use Rattle.catalog.specs.Questions.{Sofar, Step, ask, onward, begin, good_size, fewest_sectors, most_sectors, leaf_level, ask_page, asked, catalog, given, found}
+use Rattle.catalog.specs.Questions.{Sofar, ask, onward, begin, good_size, fewest_sectors, most_sectors, leaf_level, ask_page, asked, catalog, given, found}
 use Rattle.catalog.proofs.Found.{found-laid-both}
 use Rattle.catalog.proofs.FirstLeaf.{serves}
 use Rattle.catalog.proofs.Sectors.{met-sectors, divides}
@@ -24,12 +24,11 @@ use Rattle.tree.specs.Tree.{most_levels}
 use Rattle.survey.specs.declared.findings.Findings.{Findings}
 use Rattle.survey.specs.declared.row.FileRow.{FileRow}
 use Rattle.survey.specs.declared.survey.Counts.{Counts}
-use Rattle.survey.specs.Lines.{lines, line, is_met, met_count, none_met}
-use Rattle.survey.specs.Reads.{Reads, ReadOnly}
+use Rattle.survey.specs.Lines.{lines, is_met, met_count, none_met}
 use Rattle.survey.specs.Reads.Reads.{none}
 use Rattle.survey.proofs.Tellings.{reads-then, read-same, read-then, leaves-then}
-use Rattle.survey.specs.Surveys.{CountsOf, HasJust, Accepted, Refused, Fails, SurveyAnswers, Surveys, Empty}
-use Rattle.survey.specs.Asks.{World, Memory, Stands, Agrees, Asked, Faults, Leaves, Surveyed, Levelled, LevelIs, IsShown, told, yes}
+use Rattle.survey.specs.Surveys.{CountsOf, HasJust, Fails, Surveys, Empty}
+use Rattle.survey.specs.Asks.{World, Memory, Stands, Agrees, Faults, Surveyed, Levelled, IsShown, yes}
 use Rattle.survey.proofs.Counting.{member-in, in-member, count-met, sum-reverse, files-sectors, rows-count}
 
 -- THE QUESTIONS, as they were asked: their run is the one of all questions

@@ -1,5 +1,5 @@
 -- Questions asked in memory alone, and with a disk that is read on the way.
-use Rattle.std.proofs.Common.{◌≡◌, ℕ, zero, suc, ◌+◌, ◌-◌, ◌*◌, ◌/◌, ◌%◌, ◌<◌, ◌≤◌, Bool, true, false, cond, eqb, leb, ltb, ◌&&◌, ◌||◌, List, [], ◌∷◌, length, get_or, map, set, IsErrAnd, Some, None, Ok, Err, Option, Result, sym, refl, ap, ◌∙◌, subst, arith}
+use Rattle.std.proofs.Common.{◌≡◌, ℕ, ◌+◌, ◌/◌, ◌<◌, ◌≤◌, Bool, true, false, List, IsErrAnd, Some, None, Ok, Err, Option, Result, sym, refl, ap, ◌∙◌, subst, arith}
 use Rattle.std.proofs.lemmas.Result.{err_from_is_err_and}
 use Rattle.disk.specs.declared.fault.Cause.{Cause}
 use Rattle.disk.specs.declared.fault.Cause.TheVariants.{Outside, Gone}
@@ -17,8 +17,8 @@ use Rattle.survey.specs.declared.findings.Findings.{Findings}
 use Rattle.survey.specs.declared.row.FileRow.{FileRow}
 use Rattle.survey.specs.Reads.{Reads, ReadOnly}
 use Rattle.survey.specs.Reads.Reads.{none, more as one-more}
-use Rattle.survey.specs.Asks.{World, Memory, Stands, Done, yes, told, told_layout, Agrees, Asked, Roomy, Tells, IsShown, Faults, Leaves, Surveyed, address_asks, Led}
-use Rattle.survey.proofs.Steps.{then, stop, said, nothing, then-done, run, run_all, start, more, broke}
+use Rattle.survey.specs.Asks.{World, Memory, Done, yes, told_layout, Asked, Tells, IsShown, Faults, Leaves, Surveyed, address_asks, Led}
+use Rattle.survey.proofs.Steps.{then, stop, said, nothing, then-done, run, start, more, broke}
 
 -- the exit of a `?`: what it returns
 pub exit : {T E : Type 0} {e : E} (r : Result T E) → IsErrAnd r (λ (y : E). y ≡ e) → r ≡ Err e

@@ -1,12 +1,11 @@
 -- What the code that asks answers, in the words of the questions: x is what it holds in memory before, x' after, r the answer.
-use Rattle.std.specs.Prelude.{◌≡◌, ℕ, suc, ◌+◌, ◌*◌, ◌-◌, ◌/◌, ◌<◌, ◌≤◌, Bool, true, false, cond, not, ◌&&◌, ◌||◌, List, [], ◌∷◌, length, reverse, sum_by, Some, None, Ok, Err, Option, Result, ◌==◌, nat_le, nat_lt, nat_eq, slice_set}
+use Rattle.std.specs.Prelude.{◌≡◌, ℕ, suc, ◌+◌, ◌*◌, ◌-◌, ◌/◌, ◌<◌, ◌≤◌, Bool, true, false, cond, not, ◌&&◌, ◌||◌, List, [], length, reverse, sum_by, Some, None, Ok, Err, Option, Result, ◌==◌, nat_le, nat_lt, nat_eq}
 use Rattle.disk.specs.declared.fault.Cause.TheVariants.{Gone}
 use Rattle.disk.specs.declared.fault.DiskFault.{DiskFault}
 use Rattle.disk.specs.Meaning.{Contents, Meaning}
 use Rattle.disk.specs.Rules.{Answer, Request, Refuses}
 use Rattle.disk.specs.Rules.Request.{getting}
 use Rattle.numbers.specs.declared.name.Name.{Name}
-use Rattle.numbers.specs.declared.sector.Address.{Address}
 use Rattle.numbers.specs.declared.sector.Sector.{Sector}
 use Rattle.numbers.specs.Names.{Key, name_size, every, good_name, name_field, name_in}
 use Rattle.numbers.specs.Lengths.{sectors, near_sectors, table_sectors, good_end, tables}

@@ -1,5 +1,5 @@
 -- The lines of a listing as a table holds them, and the sectors that a map has.
-use Rattle.std.specs.Prelude.{◌≡◌, ℕ, Bool, false, List, map, replicate, slice_index_or, count_by}
+use Rattle.std.specs.Prelude.{ℕ, Bool, false, List, map, replicate, slice_index_or, count_by}
 use Rattle.numbers.specs.Names.{name_field}
 use Rattle.catalog.specs.Catalogs.{Row}
 use Rattle.catalog.specs.Questions.{most_sectors}

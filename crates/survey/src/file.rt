@@ -98,6 +98,7 @@ fn ask_tables<D: Disk>(
 pub(crate) fn read_head<D: Disk>(disk: &mut D, first: Sector) -> Result<Header, VolumeFault>
     ensures told { (x : Memory) → first.0 < x.found.size → Surveyed D.Disk.meaning D.Disk.does disk.old x (λ w. head_asks (w.shown first.0) first.0) (told result) disk.new x }
     ensures head { IfOk result (λ h. HeaderOf ((D.Disk.meaning disk.old).shown first.0) h × (first.0 < (D.Disk.meaning disk.old).size) × ((D.Disk.meaning disk.old).live ≡ true)) }
+    ensures fits { IfOk result (λ h. h.length.0 ≤ longest) }
 {
     let mut bytes = blank_sector();
     disk.get(usize::from(first.0), &mut bytes)?;

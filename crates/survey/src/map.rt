@@ -29,7 +29,10 @@ impl SectorMap {
     pub fn is_met(&self, sector: Sector) -> bool
         ensures { result ≡ is_met self.now.met sector.0 }
     {
-        self.met.get(usize::from(sector.0)).copied().unwrap_or(false)
+        self.met
+            .get(usize::from(sector.0))
+            .copied()
+            .unwrap_or(false)
     }
 
     /// The number of sectors that were met.

@@ -52,7 +52,11 @@ pub(crate) fn leaf_level<D: Disk>(disk: &mut D, size: u16) -> Result<u32, Volume
 fn kind_at(level: u32) -> PageKind
     ensures { result ≡ kind_at level }
 {
-    if level == 1 { PageKind::Root } else { PageKind::Other }
+    if level == 1 {
+        PageKind::Root
+    } else {
+        PageKind::Other
+    }
 }
 
 /// Is the page on level 1 to 4, and on level `leaf_level` if it is a leaf?

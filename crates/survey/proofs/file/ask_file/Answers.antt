@@ -1,4 +1,4 @@
-use Rattle.std.proofs.Common.{◌≡◌, ℕ, ◌<◌, ◌≤◌, List, Ok, Err, sym, refl, ap, ◌∙◌, arith}
+use Rattle.std.proofs.Common.{refl, ap}
 use Rattle.survey.specs.Asks.{told}
 use Rattle.survey.proofs.Tellings.{exit, s_said}
 use Rattle.survey.proofs.Files.{parts, head-only, length-word}

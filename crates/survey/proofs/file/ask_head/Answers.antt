@@ -1,4 +1,4 @@
-use Rattle.std.proofs.Common.{true, false, Err, sym, refl, ap, ◌∙◌}
+use Rattle.std.proofs.Common.{true, false, Err, refl, ap}
 use Rattle.catalog.specs.declared.fault.VolumeFault.TheVariants.{Layout}
 use Rattle.survey.proofs.Files.{head-no, head-own, head-all, header-of, own-test}
 use Rattle.survey.proofs.Tellings.{tells_said}

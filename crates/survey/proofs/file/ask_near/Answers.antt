@@ -1,4 +1,4 @@
-use Rattle.std.proofs.Common.{◌≡◌, ◌+◌, sym, refl, ap, arith}
+use Rattle.std.proofs.Common.{refl, ap, arith}
 use Rattle.survey.specs.Asks.{told_layout, near_turn}
 use Rattle.survey.proofs.Tellings.{exit, tells_said, t_start, t_more, t_broke}
 use Rattle.survey.proofs.Files.{near_asked, near_all}

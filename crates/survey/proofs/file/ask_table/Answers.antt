@@ -1,4 +1,4 @@
-use Rattle.std.proofs.Common.{◌≡◌, ◌+◌, ◌*◌, Ok, Err, sym, refl, ap, ◌∙◌, arith}
+use Rattle.std.proofs.Common.{Ok, Err, refl, ap, arith}
 use Rattle.numbers.specs.declared.sector.Sector.{Sector}
 use Rattle.layout.specs.declared.table.Table.{Table}
 use Rattle.survey.specs.Asks.{told, entry_turn}

@@ -1,4 +1,4 @@
-use Rattle.std.proofs.Common.{◌≡◌, ◌+◌, refl, ap, arith}
+use Rattle.std.proofs.Common.{refl, ap, arith}
 use Rattle.survey.specs.declared.findings.Findings.{Findings}
 use Rattle.survey.specs.Asks.{told, table_turn}
 use Rattle.survey.proofs.Tellings.{exit, s_said, s_ends, s_start, s_more, s_broke}

@@ -1,8 +1,9 @@
-use Rattle.std.proofs.Common.{◌≡◌, ◌+◌, Ok, Err, sym, refl, ap, ◌∙◌, subst, arith}
+use Rattle.std.proofs.Common.{Ok, Err, refl, ap, ◌∙◌, subst, arith}
 use Rattle.disk.specs.Meaning.{Contents}
 use Rattle.layout.specs.declared.header.Header.{Header}
 use Rattle.survey.specs.Asks.{told, head_asks, HeaderOf}
 use Rattle.survey.proofs.Tellings.{exit, still, s_said, s_read, s_unread, got-shown}
+use Rattle.survey.proofs.Files.{length-word}
 use Rattle.survey.proofs.file.read_head.Goals as goal
 
 pub returns-in_err-get-clause-told : goal.returns-in_err-get-clause-told
@@ -24,3 +25,6 @@ returns-clause-head g c =
     let rule = c.in_ok-get.ensures.rule.answer in
     let m = g.D.Disk.meaning c.args.disk.now in
     (subst (λ (b : Contents). HeaderOf b c.in_ok-header.header) (rule.filled ∙ ap m.shown c.from.ensures) c.in_ok-header.ensures.head, omega (arith, rule.inside), rule.was)
+
+pub returns-clause-fits : goal.returns-clause-fits
+returns-clause-fits g c = (length-word _ _ c.in_ok-header.ensures.head).1

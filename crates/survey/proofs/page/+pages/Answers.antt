@@ -1,4 +1,4 @@
-use Rattle.std.proofs.Common.{◌≡◌, ◌<◌, ◌≤◌, ◌+◌, ◌-◌, ◌*◌, Ok, Err, sym, refl, ap, ◌∙◌, arith}
+use Rattle.std.proofs.Common.{◌≡◌, refl, ap, ◌∙◌, arith}
 use Rattle.survey.specs.Asks.{told, page_turn}
 use Rattle.survey.proofs.Tellings.{exit, s_said, s_unread, s_start, s_more, s_broke}
 use Rattle.survey.proofs.Pages.{below-none, below-err, below-some, due-is, stored-is, page-no-top, page-no-first, page-all, turn-stop, turn-both}

@@ -1,10 +1,6 @@
-use Rattle.std.proofs.Common.{◌≡◌, ◌<◌, ◌≤◌, ◌+◌, Err, sym, refl, ap, ◌∙◌, arith}
+use Rattle.std.proofs.Common.{refl, ap, ◌∙◌, arith}
 use Rattle.numbers.specs.Names.{is_name_field}
-use Rattle.catalog.specs.declared.fault.VolumeFault.TheVariants.{Layout}
-use Rattle.catalog.specs.Catalogs.{Row}
-use Rattle.catalog.specs.Questions.{list}
-use Rattle.survey.specs.declared.row.FileRow.{FileRow}
-use Rattle.survey.specs.Asks.{World, Memory, Asked, told, yes}
+use Rattle.survey.specs.Asks.{told}
 use Rattle.survey.proofs.Tellings.{exit, s_said}
 use Rattle.survey.proofs.Pages.{entry-no-name, entry-no-file, entry-stopped, entry-all, in-field}
 use Rattle.survey.proofs.page.ask_entry.Goals as goal

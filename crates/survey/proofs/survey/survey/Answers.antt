@@ -1,4 +1,4 @@
-use Rattle.std.proofs.Common.{◌≡◌, ◌+◌, Bool, true, Err, List, Result, sym, refl, ap, ◌∙◌, subst}
+use Rattle.std.proofs.Common.{Result, sym, ap, ◌∙◌, subst}
 use Rattle.catalog.specs.declared.fault.VolumeFault.{VolumeFault}
 use Rattle.catalog.specs.Questions.{good_size}
 use Rattle.survey.specs.declared.survey.Counts.{Counts}
@@ -11,7 +11,7 @@ pub of-requires : goal.of-requires
 of-requires g c =
     let s = c.in_ok-size.ensures in
     let h = survey-counts c.args.disk.now c.leaf_level.new.disk c.ask_page.new.disk c.in_ok-size.size c.in_ok-leaf_level.leaf_level c.new-findings.result c.args.rows.now (record { found = c.ask_page.new.findings; rows = c.ask_page.new.rows })
-        (ap good_size s.1 ∙ s.0) (s.1 ∙ c.size.ensures.is) c.in_ok-leaf_level.ensures c.new-findings.ensures.stands c.size.ensures.sound c.in_ok-ask_page.ensures in
+    (ap good_size s.1 ∙ s.0) (s.1 ∙ c.size.ensures.is) c.in_ok-leaf_level.ensures c.new-findings.ensures.stands c.size.ensures.sound c.in_ok-ask_page.ensures in
     record { files = h.0; inside = h.1 }
 
 pub returns-in_err-size : goal.returns-in_err-size

@@ -1,4 +1,4 @@
-use Rattle.std.proofs.Common.{sym, refl, ap, Ok, Err}
+use Rattle.std.proofs.Common.{sym, refl, ap}
 use Rattle.survey.specs.Asks.{address_asks, told_layout}
 use Rattle.survey.proofs.Tellings.{exit, tells_said}
 use Rattle.survey.proofs.findings.Findings.link.Goals as goal

@@ -1,4 +1,4 @@
-use Rattle.std.proofs.Common.{◌≡◌, Bool, true, sym, refl, ap, ◌+◌, ◌∙◌, List, ℕ, arith}
+use Rattle.std.proofs.Common.{◌≡◌, Bool, true, sym, refl, ap, ◌∙◌, List, ℕ, arith}
 use Rattle.numbers.specs.Names.{Key, is_name_field, name_in}
 use Rattle.numbers.specs.Order.{cmp}
 use Rattle.catalog.specs.Questions.{is_above}
