@@ -93,7 +93,7 @@ own-test {n} {a} c h d s v p e f g =
     flip false u v h k = sym k ∙ ap not h
 
 -- ADDRESSES of the header that a sector holds
-address-at : (c : Contents) (i n k : ℕ) (d : Address) → k < n → (get_or (addresses_in c i n) k d).0 ≡ word c (i + word_size * k)
+pub address-at : (c : Contents) (i n k : ℕ) (d : Address) → k < n → (get_or (addresses_in c i n) k d).0 ≡ word c (i + word_size * k)
 address-at c i zero k d h = absurd (omega arith)
 address-at c i (suc n) zero d h = ap (word c) (omega arith)
 address-at c i (suc n) (suc k) d h = address-at c (i + word_size) n k d (omega arith) ∙ ap (word c) (omega arith)

@@ -6,3 +6,5 @@ pub mod Levels
 pub mod Pages
 pub mod Counting
 pub mod Surveying
+pub mod Reading
+pub mod Fetching

@@ -114,7 +114,7 @@ lost-of : (c : Cause) (m m' : Meaning) (n : ℕ) (f : DiskFault) → Refuses c m
 lost-of Outside m m' n f p e = cc
 lost-of Gone m m' n f p e = p.lost
 
-passed : (w : World) (t : List FileRow) (x : Memory) (y : Result Sofar LayoutFault) → Agrees w t yes x y → (s : Sofar) × (y ≡ Ok s) × Stands w t x s
+pub passed : (w : World) (t : List FileRow) (x : Memory) (y : Result Sofar LayoutFault) → Agrees w t yes x y → (s : Sofar) × (y ≡ Ok s) × Stands w t x s
 passed w t x (Ok s) h = (s, refl, h)
 passed w t x (Err e) h = absurd h
 

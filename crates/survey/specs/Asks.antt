@@ -205,3 +205,9 @@ pub record Levelled {D : Type 0} (meaning : D → Meaning) (does : D → Request
   pub read : ReadOnly (meaning d) (meaning d')
   pub leaves : Leaves meaning does d (told r) d'
   pub level : LevelIs (meaning d) r
+
+-- what a refusal of a first sector that was read says beside
+abbrev pub HeadFault : {D : Type 0} → (D → Meaning) → (D → Request → Answer → D → Type 0) → D → ℕ → Done → D → Type 0
+HeadFault meaning does d first (Ok u) d' = Unit {0}
+HeadFault meaning does d first (Err (Layout e)) d' = first < (meaning d).size
+HeadFault meaning does d first (Err (Disk f)) d' = does d (getting first) (Err f) d' × Refuses f.cause (meaning d) first f (meaning d')

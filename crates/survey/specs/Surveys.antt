@@ -1,15 +1,16 @@
 -- What a survey of a volume answers: m is what the disk means before, d and d' the disk itself before and after.
-use Rattle.std.specs.Prelude.{◌≡◌, ℕ, ◌↔◌, Bool, true, false, List, ◌++◌, length, IsTrue, Ok, Err, Result}
-use Rattle.disk.specs.declared.fault.Cause.TheVariants.{Gone}
+use Rattle.std.specs.Prelude.{◌≡◌, ℕ, ◌≤◌, ◌↔◌, ◌⊎◌, Bool, true, false, List, ◌++◌, length, take, IsTrue, Ok, Err, Result}
+use Rattle.disk.specs.declared.fault.Cause.TheVariants.{Outside, Gone}
 use Rattle.disk.specs.declared.fault.DiskFault.{DiskFault}
 use Rattle.disk.specs.Meaning.{Meaning, In}
 use Rattle.disk.specs.Rules.{Answer, Request}
 use Rattle.disk.specs.Rules.Request.{getting}
+use Rattle.numbers.specs.declared.length.Length.{Length}
 use Rattle.catalog.specs.declared.fault.LayoutFault.{LayoutFault}
 use Rattle.catalog.specs.declared.fault.VolumeFault.{VolumeFault}
 use Rattle.catalog.specs.declared.fault.VolumeFault.TheVariants.{Disk, Layout}
-use Rattle.catalog.specs.Catalogs.{Catalog, entries, page_sectors, file_sectors, free_sectors, rows, overlaid}
-use Rattle.catalog.specs.Questions.{found}
+use Rattle.catalog.specs.Catalogs.{Extent, Catalog, bytes_of, entries, page_sectors, file_sectors, free_sectors, rows, overlaid}
+use Rattle.catalog.specs.Questions.{found, file_found}
 use Rattle.survey.specs.declared.row.FileRow.{FileRow}
 use Rattle.survey.specs.declared.survey.Counts.{Counts}
 use Rattle.survey.specs.Lines.{lines, is_met}
@@ -63,3 +64,38 @@ module _ {D : Type 0} (meaning : D → Meaning) (does : D → Request → Answer
     pub reads : Reads does d d'
     pub read : ReadOnly (meaning d) (meaning d')
     pub answer : SurveyAnswers d old r d' marks new
+
+-- READ. The file found at a first sector, alone: its length, and its bytes as far as the buffer takes them; it held old and holds new
+pub record Fetched (m : Meaning) (first long : ℕ) (old new : List ℕ) : Type 0 where
+  pub extent : Extent
+  pub is_found : file_found m.size m.shown first ≡ Ok extent
+  pub long_is : long ≡ extent.long
+  pub bytes : new ≡ overlaid (bytes_of m.shown extent) old
+
+-- refused by the layout: the first no of the file's questions, and nothing is read
+pub record FetchRefused (m : Meaning) (first : ℕ) (e : LayoutFault) (old new : List ℕ) : Type 0 where
+  pub is_found : file_found m.size m.shown first ≡ Err e
+  pub untouched : new ≡ old
+
+-- up to a fault of the disk: nothing, or the first k bytes of the file that is found; which k is left free
+abbrev pub Begun : Meaning → ℕ → List ℕ → List ℕ → Type 0
+Begun m first old new = (new ≡ old) ⊎ ((x : Extent) × (file_found m.size m.shown first ≡ Ok x) × ((k : ℕ) × (new ≡ overlaid (take k (bytes_of m.shown x)) old)))
+
+module _ {D : Type 0} (meaning : D → Meaning) (does : D → Request → Answer → D → Type 0) where
+  -- there is no sector of that number: the disk's own answer, unchanged
+  pub record NoSector (d : D) (first : ℕ) (f : DiskFault) (d' : D) (old new : List ℕ) : Type 0 where
+    pub beyond : (meaning d).size ≤ first
+    pub asked : does d (getting first) (Err f) d'
+    pub outside : f.cause ≡ Outside
+    pub untouched : new ≡ old
+
+  abbrev pub FetchAnswers : D → ℕ → List ℕ → Result Length VolumeFault → D → List ℕ → Type 0
+  FetchAnswers d first old (Ok l) d' new = Fetched (meaning d) first l.0 old new
+  FetchAnswers d first old (Err (Layout e)) d' new = FetchRefused (meaning d) first e old new
+  FetchAnswers d first old (Err (Disk f)) d' new = (Fails meaning does d f d' × Begun (meaning d) first old new) ⊎ NoSector d first f d' old new
+
+  -- a read of a file, whatever it answers: nothing is put
+  pub record Fetches (d : D) (first : ℕ) (old : List ℕ) (r : Result Length VolumeFault) (d' : D) (new : List ℕ) : Type 0 where
+    pub reads : Reads does d d'
+    pub read : ReadOnly (meaning d) (meaning d')
+    pub answer : FetchAnswers d first old r d' new

@@ -4,7 +4,7 @@ ghost use Rattle.disk.specs.Meaning.{Contents};
 ghost use Rattle.numbers.specs.Lengths.{longest, most_tables};
 ghost use Rattle.catalog.specs.Questions.{◌▸◌, length_at, ask_table as table_questions, ask_file as file_questions};
 ghost use Rattle.survey.specs.declared.row.FileRow.{FileRow};
-ghost use Rattle.survey.specs.Asks.{World, Memory, Tells, Surveyed, told, told_layout, head_fault, head_asks, near_asks, table_asks, HeaderOf};
+ghost use Rattle.survey.specs.Asks.{World, Memory, Tells, Surveyed, told, told_layout, HeadFault, head_fault, head_asks, near_asks, table_asks, HeaderOf};
 
 use crate::findings::Findings;
 use catalog::fault::{LayoutFault, VolumeFault};
@@ -99,6 +99,7 @@ pub(crate) fn read_head<D: Disk>(disk: &mut D, first: Sector) -> Result<Header, 
     ensures told { (x : Memory) → first.0 < x.found.size → Surveyed D.Disk.meaning D.Disk.does disk.old x (λ w. head_asks (w.shown first.0) first.0) (told result) disk.new x }
     ensures head { IfOk result (λ h. HeaderOf ((D.Disk.meaning disk.old).shown first.0) h × (first.0 < (D.Disk.meaning disk.old).size) × ((D.Disk.meaning disk.old).live ≡ true)) }
     ensures fits { IfOk result (λ h. h.length.0 ≤ longest) }
+    ensures fault { HeadFault D.Disk.meaning D.Disk.does disk.old first.0 (told result) disk.new }
 {
     let mut bytes = blank_sector();
     disk.get(usize::from(first.0), &mut bytes)?;

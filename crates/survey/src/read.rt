@@ -1,7 +1,9 @@
 //! The bytes of a file whose questions were answered with yes.
-ghost use Rattle.std.specs.Prelude.{◌≡◌, ◌+◌, ◌<◌, ◌≤◌, length};
+ghost use Rattle.std.specs.Prelude.{◌≡◌, ◌+◌, ◌<◌, ◌≤◌, Some, None, length, MatchResult};
+ghost use Rattle.numbers.specs.Sectors.{sector_at};
 ghost use Rattle.numbers.specs.Lengths.{last_of_longest, longest};
 ghost use Rattle.layout.specs.Words.{written};
+ghost use Rattle.survey.specs.Fetches.{FindsPart, Fills};
 
 use catalog::fault::{LayoutFault, VolumeFault};
 use disk::Disk;
@@ -13,7 +15,9 @@ use numbers::sector::{Address, Sector};
 
 /// The sector that an address leads to, which stands in sector `holder`.
 // all were asked before: that one leads nowhere does not come about
-fn lead(address: Address, size: u16, holder: Sector) -> Result<Sector, LayoutFault> {
+fn lead(address: Address, size: u16, holder: Sector) -> Result<Sector, LayoutFault>
+    ensures { MatchResult result (λ s. sector_at size address.0 ≡ Some s) (λ e. sector_at size address.0 ≡ None) }
+{
     match address.sector(size) {
         Some(sector) => Ok(sector),
         None => Err(LayoutFault::BadAddress(holder)),
@@ -29,6 +33,7 @@ fn find_part<D: Disk>(
     i: u32,
 ) -> Result<Sector, VolumeFault>
     requires { i ≤ last_of_longest }
+    ensures { FindsPart D.Disk.meaning D.Disk.does disk.old size header.now first.0 i result disk.new }
 {
     if i == 0 {
         return Ok(first); // its own address is not asked to lead anywhere
@@ -61,6 +66,7 @@ pub(crate) fn read_bytes<D: Disk>(
     into: &mut [u8],
 ) -> Result<(), VolumeFault>
     requires { header.now.length.0 ≤ longest }
+    ensures { Fills D.Disk.meaning D.Disk.does disk.old size header.now first.0 into.old result disk.new into.new }
 {
     let end = into.len().min(header.length.0 as usize);
     let mut done = 0;

@@ -3,7 +3,7 @@ ghost use Rattle.std.specs.Prelude.{◌≡◌, ◌+◌, ◌<◌, ◌≤◌, ◌-
 ghost use Rattle.catalog.specs.declared.fault.LayoutFault.TheVariants.{BadSize};
 ghost use Rattle.catalog.specs.Questions.{good_size};
 ghost use Rattle.survey.specs.Lines.{met_count};
-ghost use Rattle.survey.specs.Surveys.{Surveys};
+ghost use Rattle.survey.specs.Surveys.{Surveys, Fetches};
 
 use crate::file::{ask_links, read_head};
 use crate::findings::Findings;
@@ -90,7 +90,9 @@ pub fn read_file<D: Disk>(
     disk: &mut D,
     first: Sector,
     into: &mut [u8],
-) -> Result<Length, VolumeFault> {
+) -> Result<Length, VolumeFault>
+    ensures { Fetches D.Disk.meaning D.Disk.does disk.old first.0 into.old result disk.new into.new }
+{
     let size = ask_size(disk.size())?;
     let header = read_head(disk, first)?;
     let mut findings = Findings::new(size, 1, first);
