@@ -1,4 +1,5 @@
 pub mod Faults
+pub mod Texts
 pub mod Catalogs
 pub mod Lays
 pub mod Questions

@@ -1,9 +1,12 @@
-ghost use Rattle.std.specs.Prelude.{◌≡◌};
+ghost use Rattle.std.specs.Prelude.{◌≡◌, Some};
 ghost use Rattle.catalog.specs.Faults.{layout_number, layout_sector, volume_number};
+ghost use Rattle.catalog.specs.Texts.{layout_fault_words, layout_fault_text, volume_fault_text};
 ghost use Rattle.catalog.specs.declared.fault.VolumeFault.TheVariants.{Disk as of_disk, Layout as of_layout};
 
 use disk::fault::DiskFault;
 use numbers::sector::Sector;
+use std::error::Error;
+use std::fmt;
 
 /// What is wrong with a volume's layout, with the sector that held what was asked.
 #[derive(Clone, Copy, PartialEq, Eq, Debug)]
@@ -59,7 +62,42 @@ impl LayoutFault {
             | LayoutFault::BadLength(s) => Some(s),
         }
     }
+
+    /// What is wrong, without the sector.
+    fn words(self) -> &'static str
+        ensures { result.now ≡ layout_fault_words self }
+    {
+        match self {
+            LayoutFault::BadSize => "the card does not have 3 to 16384 sectors",
+            LayoutFault::BadMark(_) => "the mark is wrong, or bytes that should be zero are not",
+            LayoutFault::BadCount(_) => "the number of entries is out of range",
+            LayoutFault::BadAddress(_) => {
+                "an address leads to no sector of the card, or is not the one that should stand there"
+            }
+            LayoutFault::MetBefore(_) => "an address leads to a sector that is in use already",
+            LayoutFault::BadLevel(_) => {
+                "the page is more than four levels down, or a leaf that is not level with the first one"
+            }
+            LayoutFault::BadEntry(_) => "a name is not a good one, or not above the name before it",
+            LayoutFault::BadLength(_) => "the length of the file is out of range",
+        }
+    }
 }
+
+/// In plain words, for whoever has the card in hand.
+impl fmt::Display for LayoutFault {
+    ghost output = { λ fault. Some (layout_fault_text fault) };
+
+    fn fmt<W: fmt::Write>(&self, f: &mut fmt::Formatter<W>) -> fmt::Result {
+        let words = self.words();
+        match self.sector() {
+            Some(sector) => write!(f, "sector {}: {words}", sector.0),
+            None => f.write_str(words),
+        }
+    }
+}
+
+impl Error for LayoutFault {}
 
 /// Why a volume could not be read: the disk did not answer, or its layout is wrong.
 #[derive(Clone, Copy, PartialEq, Eq, Debug)]
@@ -96,3 +134,16 @@ impl From<LayoutFault> for VolumeFault {
         VolumeFault::Layout(fault)
     }
 }
+
+impl fmt::Display for VolumeFault {
+    ghost output = { λ fault. Some (volume_fault_text fault) };
+
+    fn fmt<W: fmt::Write>(&self, f: &mut fmt::Formatter<W>) -> fmt::Result {
+        match self {
+            VolumeFault::Disk(refusal) => write!(f, "the card did not answer: {refusal}"),
+            VolumeFault::Layout(wrong) => write!(f, "{wrong}"),
+        }
+    }
+}
+
+impl Error for VolumeFault {}
