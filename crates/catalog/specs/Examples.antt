@@ -40,12 +40,21 @@ raw_file mark a b tabs parts = stored mark ++ (name_field [] ++ (stored a ++ (st
 abbrev pub file_of : ℕ → ℕ → List ℕ → List ℕ → Contents
 file_of a b tabs parts = raw_file file_mark a b tabs parts
 
--- sectors 1 and up as given; every other sector is the first one of an empty file
+-- the first sector of an empty file, and those of n empty files from a sector on
 abbrev pub empty_file : ℕ → Contents
 empty_file s = file_of 0 header_size [] (address s ∷ [])
 
+abbrev pub empty_files : ℕ → ℕ → List Contents
+empty_files s zero = []
+empty_files s (suc n) = empty_file s ∷ empty_files (suc s) n
+
+-- the contents of sectors 1 and up as a list has them
+abbrev pub sectors : List Contents → ℕ → Contents
+sectors list s = slice_index_or list (s - 1) []
+
+-- and with fifty more behind them, each the first one of an empty file
 abbrev pub disk : List Contents → ℕ → Contents
-disk list s = slice_index_or list (s - 1) (empty_file s)
+disk list = sectors (list ++ empty_files (suc (length list)) 50)
 
 -- the name of one letter, the i-th; an entry of a leaf, and n of them from a letter and a sector on
 abbrev pub letter : ℕ → Key

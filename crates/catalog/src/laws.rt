@@ -47,7 +47,7 @@ pub fn written_stands()
     ensures head { HeadWritten }
 {}
 
-/// Small disks: three on which a catalog is found, and each refusal at each kind of place.
+/// Small disks: four on which a catalog is found, and each refusal at each kind of place.
 pub fn examples_stand()
     ensures { Examples }
 {}
