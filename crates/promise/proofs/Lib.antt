@@ -21,3 +21,4 @@ pub mod Stores
 pub mod Witnesses
 pub mod Restarts
 pub mod Splits
+pub mod Growing

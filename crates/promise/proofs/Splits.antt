@@ -1,7 +1,7 @@
 -- Calls by which pages are split and joined, each as it is promised.
 use Rattle.std.proofs.Common.{◌≡◌, ℕ, zero, suc, ◌-◌, ◌^◌, ◌<◌, ◌≤◌, Bool, true, false, cond, ◌⊎◌, List, [], ◌∷◌, ◌++◌, map, length, get_or, take, Some, None, Ok, sym, refl, ap, ◌∙◌, subst, inl, inr, arith}
-use Rattle.std.specs.Prelude.{◌&&◌, ◌||◌, ◌==◌, ◌≢◌, slice_index}
-use Rattle.std.proofs.lemmas.Bool.{and_parts, cond_both, eqb-true}
+use Rattle.std.specs.Prelude.{◌==◌, ◌≢◌, slice_index}
+use Rattle.std.proofs.lemmas.Bool.{cond_both}
 use Rattle.std.proofs.lemmas.List.{take_all}
 use Rattle.std.proofs.lemmas.Option.{none-some, same_Some}
 use Rattle.numbers.specs.Names.{Key}
@@ -11,7 +11,7 @@ use Rattle.layout.specs.Words.{blank}
 use Rattle.layout.specs.Pages.{page_bytes}
 use Rattle.tree.specs.Tree.{Entry, Item, item}
 use Rattle.disk.specs.Meaning.{Contents, In}
-use Rattle.catalog.specs.Catalogs.{Laid, Extent, Catalog, plain_tree, entries, page_sectors, outside, member, bytes_of, range}
+use Rattle.catalog.specs.Catalogs.{Laid, Extent, Catalog, plain_tree, entries, page_sectors, outside, bytes_of, range}
 use Rattle.catalog.specs.Lays.{Below, FileAt, Lays}
 use Rattle.catalog.specs.Laws.{Sized}
 use Rattle.catalog.specs.Questions.{found, asked, catalog, ask_table, ask_file, first_leaf, ask_page, extent, laid}

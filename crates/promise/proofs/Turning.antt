@@ -55,7 +55,7 @@ module _ (m : Meaning) (slots slots' : List (Option Open)) (free free' : List �
 
 -- CALLS that put and settle
 module _ (size : ℕ) (calm : Bool) (m : Meaning) (shown' : ℕ → Contents) (slots slots' : List (Option Open)) (free free' : List ℕ) (t : Table) (h : Holds (store slots free m) t) (same : size ≡ m.size)
-  (goes_on : m.calm ≡ true → calm ≡ true) where
+    (goes_on : m.calm ≡ true → calm ≡ true) where
   pub puts : (c : Call) (t' : Table) → Turn t c Done t' → t'.ready ≡ true → Holds (store slots' free' (settled_disk size calm shown')) t' →
       ((k : Holds (store slots' free' (settled_disk size calm shown')) t') (s : ℕ) → In s (uses t' k.catalog k.extents) → In s free ⊎ In s (uses t h.catalog h.extents)) →
       ((s : ℕ) → In s free' → In s free ⊎ In s (page_sectors h.catalog)) →

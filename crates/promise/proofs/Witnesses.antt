@@ -58,7 +58,7 @@ none-later zero k o e = none-some o e
 none-later (suc n) zero o e = none-some o e
 none-later (suc n) (suc k) o e = none-later n k o e
 
-first-only : {A : Type 0} (x : Option A) (s : ℕ) (o : A) → Some 0 ≢ Some s → get_or (x ∷ replicate 7 None) s None ≡ Some o → ⊥
+pub first-only : {A : Type 0} (x : Option A) (s : ℕ) (o : A) → Some 0 ≢ Some s → get_or (x ∷ replicate 7 None) s None ≡ Some o → ⊥
 first-only x zero o n e = n refl
 first-only x (suc s) o n e = none-later 7 s o e
 

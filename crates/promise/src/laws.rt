@@ -3,6 +3,7 @@
 ghost use Rattle.std.specs.Prelude.{Bool};
 ghost use Rattle.promise.specs.Laws.{StaysProper, Accounts, Refusals, StaysSane, RestartForgets, StayTogether, HoldsOne};
 ghost use Rattle.promise.specs.Witnesses.{Witnesses, Refused};
+ghost use Rattle.promise.specs.Growing.{Growing};
 ghost use Rattle.promise.specs.Splits.{Splits};
 
 /// Every call keeps the table proper, whatever it answers.
@@ -49,4 +50,9 @@ pub fn witnesses_stand()
 /// It can be kept where pages are split and joined too.
 pub fn splits_stand()
     ensures { Splits }
+{}
+
+/// It can be kept where a file grows past the sectors that are laid down.
+pub fn growing_stands()
+    ensures { Growing }
 {}
