@@ -1,5 +1,5 @@
 -- Calls by which a file grows, each as it is promised.
-use Rattle.std.proofs.Common.{◌≡◌, ℕ, zero, suc, ◌^◌, ◌<◌, true, false, ◌⊎◌, [], ◌∷◌, ◌++◌, length, get_or, take, replicate, Some, None, sym, refl, ap, ◌∙◌, subst, inl, inr, arith}
+use Rattle.std.proofs.Common.{◌≡◌, ℕ, zero, suc, ◌^◌, ◌<◌, true, ◌⊎◌, [], ◌∷◌, ◌++◌, length, get_or, take, replicate, Some, None, sym, refl, ap, ◌∙◌, subst, inl, inr, arith}
 use Rattle.std.specs.Prelude.{◌==◌, ◌≢◌}
 use Rattle.std.proofs.lemmas.Bool.{cond_both}
 use Rattle.std.proofs.lemmas.Option.{same_Some}
@@ -17,10 +17,10 @@ use Rattle.promise.specs.Promise.{Open}
 use Rattle.promise.specs.Calls.{seen, Grown, closes, Head, Unput, DirectoryPut, Holds, Turned}
 use Rattle.promise.specs.Examples.{after, at, hall, counting}
 use Rattle.promise.specs.Witnesses.{contents, in_second, hall_sector, first_bytes, hall_entry, none_open}
-use Rattle.promise.specs.Growing.{more_bytes, in_two, longer_sector, with_third, short_shown, grown_disk, longer_shown, short_store, longer_open, grown_store, closed_store, short_table, grown_table, Growing}
+use Rattle.promise.specs.Growing.{more_bytes, in_two, longer_sector, with_third, short_shown, grown_disk, longer_shown, short_store, longer_open, grown_store, longer_store, short_table, grown_table, Growing}
 use Rattle.promise.proofs.StayProper.{turns, formatted-proper}
 use Rattle.promise.proofs.Slots.{no-slot}
-use Rattle.promise.proofs.Turning.{took-by, directory-by, quiet, puts}
+use Rattle.promise.proofs.Turning.{false-true, took-by, directory-by, quiet, puts}
 use Rattle.promise.proofs.Witnesses.{none-later, first-only}
 use Rattle.promise.proofs.Cards.{either-in, distinct, within, root-hall, contents-long, hall-laid, hall-long, hall-bytes, one_file, lays-one}
 
@@ -66,8 +66,8 @@ new_table = after (formatted 12) ((2, New hall) ∷ [])
 abbrev written_table : Table
 written_table = after new_table ((0, Write (at 0 0) first_bytes) ∷ [])
 
-abbrev closed_table : Table
-closed_table = after grown_table ((0, Close 0) ∷ [])
+abbrev longer_table : Table
+longer_table = after grown_table ((0, Close 0) ∷ [])
 
 short-proper : Proper short_table
 short-proper =
@@ -81,7 +81,7 @@ write-turn = said (Write (at 0 5) more_bytes) 0 refl
 grown-proper : Proper grown_table
 grown-proper = turns short_table grown_table (Write (at 0 5) more_bytes) (Wrote 668 (at 0 673)) short-proper write-turn
 
-close-turn : Turn grown_table (Close 0) Done closed_table
+close-turn : Turn grown_table (Close 0) Done longer_table
 close-turn = said (Close 0) 0 refl
 
 -- STORES
@@ -131,8 +131,8 @@ grown-holds = record {
   proper = grown-proper;
 }
 
-unfoldable closed-holds : Holds closed_store closed_table
-closed-holds = record {
+unfoldable longer-holds : Holds longer_store longer_table
+longer-holds = record {
   size = refl;
   ready = refl;
   live = refl;
@@ -147,7 +147,7 @@ closed-holds = record {
   grown = λ x y i j e. absurd j;
   apart = distinct (counting 4 8 ++ (1 ∷ 2 ∷ 3 ∷ [])) refl;
   inside = within 2 12 (counting 4 8) refl;
-  proper = turns grown_table closed_table (Close 0) Done grown-proper close-turn;
+  proper = turns grown_table longer_table (Close 0) Done grown-proper close-turn;
 }
 
 -- CALLS
@@ -161,7 +161,7 @@ write-turns h = record {
   new = λ n s e f. absurd (not-new s f);
   took = took-by short_store grown_store short_table short_table grown_table grown_table short-sized grown-sized h short-holds grown-holds (either-in (counting 3 9) (1 ∷ 2 ∷ []) (1 ∷ 2 ∷ 3 ∷ []) refl);
   freed = λ _ s i. inl (inr i);
-  answered = record { lost = (λ e. absurd (differ e), λ e. absurd (differ (sym e))); accepts = λ _ _. refl; calm = λ e. e; size = refl };
+  answered = record { lost = (λ e. false-true e, λ e. false-true (sym e)); accepts = λ _ _. refl; calm = λ e. e; size = refl };
   unput = λ r e b. absurd (not-no r e);
   settled = λ e. absurd (not-done e);
   head = λ s o e f d. absurd (not-done d);
@@ -170,9 +170,6 @@ write-turns h = record {
   pages = λ e. absurd (not-done e);
 }
   where
-    differ : false ≡ true → ⊥
-    differ e = cc
-
     not-done : Wrote 668 (at 0 673) ≡ Done → ⊥
     not-done e = cc
 
@@ -204,21 +201,21 @@ refused-turns h = quiet grown_disk longer_open longer_open (counting 4 8) (count
         apart zero x e q = let r = ap (λ (y : Slot). y.file) (same_Some (record { file = 2; sort = Registered; name = hall; handles = 1 }) x e) in absurd (omega (arith, r, q))
         apart (suc s) x e q = none-later 7 s x e
 
-close-turns : (h : Holds grown_store grown_table) → Turned grown_store grown_table h (Close 0) Done closed_store
-unfolding grown-holds closed-holds
+close-turns : (h : Holds grown_store grown_table) → Turned grown_store grown_table h (Close 0) Done longer_store
+unfolding grown-holds longer-holds
 close-turns h =
-    puts 12 true grown_disk longer_shown longer_open none_open (counting 4 8) (counting 4 8) grown_table h refl (λ e. e) (Close 0) closed_table close-turn refl closed-holds
-    (took-by grown_store closed_store grown_table grown_table closed_table closed_table grown-sized longer-sized h grown-holds closed-holds (λ s i. inr i))
+    puts 12 true grown_disk longer_shown longer_open none_open (counting 4 8) (counting 4 8) grown_table h refl (λ e. e) (Close 0) longer_table close-turn refl longer-holds
+    (took-by grown_store longer_store grown_table grown_table longer_table longer_table grown-sized longer-sized h grown-holds longer-holds (λ s i. inr i))
     (λ s i. inl i) head
     (λ s o n e. absurd (elim e [ inl a ↦ first-only _ s o n a | inr a ↦ none-later 8 s o a ]))
-    (directory-by grown_store closed_store grown_table grown_table closed_table closed_table grown-sized longer-sized h grown-holds closed-holds
-    (λ c d. (length (outside (page_sectors c) (page_sectors d)) ≡ changes grown_table closed_table.tree) × DirectoryPut c (with_third short_shown) longer_shown d) (refl, (inl refl, (tt, (tt, tt)))))
+    (directory-by grown_store longer_store grown_table grown_table longer_table longer_table grown-sized longer-sized h grown-holds longer-holds
+    (λ c d. (length (outside (page_sectors c) (page_sectors d)) ≡ changes grown_table longer_table.tree) × DirectoryPut c (with_third short_shown) longer_shown d) (refl, (inl refl, (tt, (tt, tt)))))
   where
-    head : (s : ℕ) (o : Open) → closes (Close 0) ≡ Some s → get_or longer_open s None ≡ Some o → Head o (closed_table.files o.slot.file) longer_shown
+    head : (s : ℕ) (o : Open) → closes (Close 0) ≡ Some s → get_or longer_open s None ≡ Some o → Head o (longer_table.files o.slot.file) longer_shown
     head s o e f =
         let x : Open = record { slot = record { file = 2; sort = Registered; name = hall; handles = 1 }; long = 673; first = longer_sector } in
         let q : x ≡ o = same_Some x o (subst (λ (n : ℕ). get_or longer_open n None ≡ Some o) (sym (same_Some 0 s e)) f) in
-        subst (λ (y : Open). Head y (closed_table.files y.slot.file) longer_shown) q (record { extent = in_two; long = refl; header = refl; reaches = (two-laid longer_shown refl).reaches; bytes = sym longer-bytes })
+        subst (λ (y : Open). Head y (longer_table.files y.slot.file) longer_shown) q (record { extent = in_two; long = refl; header = refl; reaches = (two-laid longer_shown refl).reaches; bytes = sym longer-bytes })
 
 pub growing : Growing
 growing = record { short = short-holds; write = write-turns; refused = refused-turns; close = close-turns }

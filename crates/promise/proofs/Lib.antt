@@ -15,6 +15,7 @@ pub mod Firsts
 pub mod StartTogether
 pub mod StartProper
 pub mod Holding
+pub mod Clear
 pub mod Cards
 pub mod Turning
 pub mod Stores

@@ -18,13 +18,10 @@ use Rattle.promise.specs.Witnesses.{sector_count, disk_of, contents, in_second, 
 use Rattle.promise.proofs.Slots.{no-slot}
 use Rattle.promise.proofs.StayProper.{turns, formatted-proper}
 use Rattle.promise.proofs.Holding.{catalog-one, extents-one, holds-one}
-use Rattle.promise.proofs.Turning.{took-by, directory-by, quiet, puts}
+use Rattle.promise.proofs.Turning.{false-true, took-by, directory-by, quiet, puts}
 use Rattle.promise.proofs.Cards.{root-empty, root-hall, hall-long, hall-laid, hall-bytes, no-bytes, contents-long}
 use Rattle.promise.proofs.Restarts.{format-done, format-lost, format-small, start-done, start-forgets, start-lost, start-small}
 use Rattle.promise.proofs.Stores.{formatted-holds, new-holds, written-holds, registered-holds, closed-holds, deleted-holds}
-
-false-true : false ≡ true → ⊥
-false-true e = cc
 
 -- TABLES that a store holds: like one of them, but for the files
 abbrev over : Table → (ℕ → File) → Table
@@ -36,14 +33,11 @@ same-table t u a b c d = rw (← a, ← b, ← c, ← d) refl
 does : (v v' : View) (u : Table) (c : Call) (a : Answer) → Sized v.disk.size v.disk.shown → Holds v u → v.ready ≡ true → v'.disk.size ≡ v.disk.size →
     ((f : ℕ → File) (h : Holds v (over u f)) → Turned v (over u f) h c a v') → Does v c a v'
 does v v' u c a z k r s g = record {
-  waits = λ e. absurd (differ (sym e ∙ r));
+  waits = λ e. false-true (sym e ∙ r);
   turns = λ _ t h. (let q = holds-one v t u z h k in subst (λ (t : Table). (h : Holds v t) → Turned v t h c a v') (sym (same-table t u q.ready q.tree q.slots q.free)) (g t.files) h);
   size = s;
   keeps = λ l k. tt;
 }
-  where
-    differ : false ≡ true → ⊥
-    differ e = cc
 
 sized-empty : (second : Contents) → length second ≡ 1024 → Sized sector_count (contents [] second)
 sized-empty second l s _ = contents-long [] second root-empty.1 l s
@@ -290,11 +284,11 @@ module _ (f : ℕ → File) (h : Holds (registered_store false) (over registered
     table = waits (over registered_table f);
     turn = u;
     ready = refl;
-    holds = λ e. absurd (false-true e);
+    holds = λ e. false-true e;
     new = λ k s e g. absurd (w s g);
-    took = λ k s i. absurd (false-true k.live);
-    freed = λ k s i. absurd (false-true k.live);
-    answered = record { lost = (λ _. refl, λ _. n); accepts = λ e _. absurd (false-true e); calm = λ e. e; size = refl };
+    took = λ k s i. false-true k.live;
+    freed = λ k s i. false-true k.live;
+    answered = record { lost = (λ _. refl, λ _. n); accepts = λ e _. false-true e; calm = λ e. e; size = refl };
     unput = λ q e b. absurd (r q e);
     settled = λ e. absurd (d e);
     head = λ s o e g q. absurd (d q);
@@ -321,11 +315,11 @@ register-lost f h = record {
   table = waits (over written_table f);
   turn = gone (Register 0) lost refl refl refl;
   ready = refl;
-  holds = λ e. absurd (false-true e);
+  holds = λ e. false-true e;
   new = λ n s e g. absurd (no-slotted s g);
-  took = λ k s i. absurd (false-true k.live);
-  freed = λ k s i. absurd (false-true k.live);
-  answered = record { lost = (λ _. refl, λ _. refl); accepts = λ e _. absurd (false-true e); calm = λ e. e; size = refl };
+  took = λ k s i. false-true k.live;
+  freed = λ k s i. false-true k.live;
+  answered = record { lost = (λ _. refl, λ _. refl); accepts = λ e _. false-true e; calm = λ e. e; size = refl };
   unput = λ r e b. absurd (three r e b);
   settled = λ e. absurd (no-done e);
   head = λ s o e g d. absurd (no-done d);
@@ -348,7 +342,7 @@ refused = record {
   register = does (written_store false) lost_store written_table (Register 0) (No (by_disk lost)) z₀ (written-holds false written_table.files refl written-proper) refl refl register-lost;
   read = does (registered_store false) (waiting (off (registered_store false).disk)) registered_table (Read (at 0 2) (replicate 10 0)) (NoRead lost 1 (at 0 3) (codes "r" ++ replicate 9 0)) z₁ (registered-holds false registered_table.files refl refl registered-proper) refl refl read-lost;
   list = does (registered_store false) (waiting (off (registered_store false).disk)) registered_table (Names (no_row ∷ [])) (NoNames lost 0 (no_row ∷ [])) z₁ (registered-holds false registered_table.files refl refl registered-proper) refl refl list-lost;
-  after = record { waits = λ _. (refl, refl); turns = λ e. absurd (false-true e); size = refl; keeps = λ l k. tt };
+  after = record { waits = λ _. (refl, refl); turns = λ e. false-true e; size = refl; keeps = λ l k. tt };
   start = start-forgets;
   start_lost = start-lost;
   format = format-lost;

@@ -1,4 +1,4 @@
--- What Write, Close and Delete promise can be kept where a file grows: its sectors in memory are then more than those laid down.
+-- What Write and Close promise can be kept where a file grows: its sectors in memory are then more than those laid down.
 use Rattle.std.specs.Prelude.{ℕ, true, cond, List, [], ◌∷◌, ◌++◌, replicate, Some, None, Option, ◌==◌}
 use Rattle.layout.specs.Headers.{header_bytes}
 use Rattle.disk.specs.Meaning.{Contents, Meaning}
@@ -34,7 +34,7 @@ grown_disk = record { size = 12; live = true; calm = true; shown = with_third sh
 abbrev pub longer_shown : ℕ → Contents
 longer_shown = with_third (contents hall_entry longer_sector)
 
--- THE STORE, with the file open, longer, and closed
+-- THE STORE: with the file as it was registered; longer; and closed
 abbrev pub short_store : View
 short_store = store (hall_open Registered 5 first_bytes) (counting 3 9) (settled_disk 12 true short_shown)
 
@@ -44,8 +44,8 @@ longer_open = Some (record { slot = record { file = 2; sort = Registered; name =
 abbrev pub grown_store : View
 grown_store = store longer_open (counting 4 8) grown_disk
 
-abbrev pub closed_store : View
-closed_store = store none_open (counting 4 8) (settled_disk 12 true longer_shown)
+abbrev pub longer_store : View
+longer_store = store none_open (counting 4 8) (settled_disk 12 true longer_shown)
 
 -- the tables that they hold
 abbrev pub short_table : Table
@@ -60,4 +60,4 @@ pub record Growing : Type 0 where
   pub write : (h : Holds short_store short_table) → Turned short_store short_table h (Write (at 0 5) more_bytes) (Wrote 668 (at 0 673)) grown_store
   -- eight sectors are free, and New would leave seven
   pub refused : (h : Holds grown_store grown_table) → Turned grown_store grown_table h (New []) (No NoRoom) grown_store
-  pub close : (h : Holds grown_store grown_table) → Turned grown_store grown_table h (Close 0) Done closed_store
+  pub close : (h : Holds grown_store grown_table) → Turned grown_store grown_table h (Close 0) Done longer_store
