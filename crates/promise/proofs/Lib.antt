@@ -23,3 +23,4 @@ pub mod Witnesses
 pub mod Restarts
 pub mod Splits
 pub mod Growing
+pub mod Replacing

@@ -10,3 +10,4 @@ pub mod Examples
 pub mod Witnesses
 pub mod Splits
 pub mod Growing
+pub mod Replacing

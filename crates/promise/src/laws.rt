@@ -4,6 +4,7 @@ ghost use Rattle.std.specs.Prelude.{Bool};
 ghost use Rattle.promise.specs.Laws.{StaysProper, Accounts, Refusals, StaysSane, RestartForgets, StayTogether, HoldsOne, HoldsClear};
 ghost use Rattle.promise.specs.Witnesses.{Witnesses, Refused};
 ghost use Rattle.promise.specs.Growing.{Growing};
+ghost use Rattle.promise.specs.Replacing.{Replacing};
 ghost use Rattle.promise.specs.Splits.{Splits};
 
 /// Every call keeps the table proper, whatever it answers.
@@ -56,4 +57,9 @@ pub fn splits_stand()
 /// What Write and Close promise can be kept where a file grows past the sectors that are laid down.
 pub fn growing_stands()
     ensures { Growing }
+{}
+
+/// What Register and Close promise can be kept where a name is taken over while its old file is open.
+pub fn replacing_stands()
+    ensures { Replacing }
 {}
