@@ -13,7 +13,7 @@ use Rattle.promise.specs.Table.{found_file}
 use Rattle.promise.specs.Ledger.{file_number}
 
 -- LISTS
-distinct-right : (xs ys : List ℕ) → Distinct (xs ++ ys) → Distinct ys
+pub distinct-right : (xs ys : List ℕ) → Distinct (xs ++ ys) → Distinct ys
 distinct-right [] ys d = d
 distinct-right (x ∷ xs) ys d = distinct-right xs ys d.1
 

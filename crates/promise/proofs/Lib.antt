@@ -15,9 +15,12 @@ pub mod Firsts
 pub mod StartTogether
 pub mod StartProper
 pub mod Holding
+pub mod Clear
 pub mod Cards
 pub mod Turning
 pub mod Stores
 pub mod Witnesses
 pub mod Restarts
 pub mod Splits
+pub mod Growing
+pub mod Replacing

@@ -1,7 +1,7 @@
 -- Calls by which pages are split and joined, each as it is promised.
 use Rattle.std.proofs.Common.{◌≡◌, ℕ, zero, suc, ◌-◌, ◌^◌, ◌<◌, ◌≤◌, Bool, true, false, cond, ◌⊎◌, List, [], ◌∷◌, ◌++◌, map, length, get_or, take, Some, None, Ok, sym, refl, ap, ◌∙◌, subst, inl, inr, arith}
-use Rattle.std.specs.Prelude.{◌&&◌, ◌||◌, ◌==◌, ◌≢◌, slice_index}
-use Rattle.std.proofs.lemmas.Bool.{and_parts, cond_both, eqb-true}
+use Rattle.std.specs.Prelude.{◌==◌, ◌≢◌, slice_index}
+use Rattle.std.proofs.lemmas.Bool.{cond_both}
 use Rattle.std.proofs.lemmas.List.{take_all}
 use Rattle.std.proofs.lemmas.Option.{none-some, same_Some}
 use Rattle.numbers.specs.Names.{Key}
@@ -11,7 +11,7 @@ use Rattle.layout.specs.Words.{blank}
 use Rattle.layout.specs.Pages.{page_bytes}
 use Rattle.tree.specs.Tree.{Entry, Item, item}
 use Rattle.disk.specs.Meaning.{Contents, In}
-use Rattle.catalog.specs.Catalogs.{Laid, Extent, Catalog, plain_tree, entries, page_sectors, outside, member, bytes_of, range}
+use Rattle.catalog.specs.Catalogs.{Laid, Extent, Catalog, plain_tree, entries, page_sectors, outside, bytes_of, range}
 use Rattle.catalog.specs.Lays.{Below, FileAt, Lays}
 use Rattle.catalog.specs.Laws.{Sized}
 use Rattle.catalog.specs.Questions.{found, asked, catalog, ask_table, ask_file, first_leaf, ask_page, extent, laid}
@@ -23,7 +23,7 @@ use Rattle.promise.specs.Table.{File, Sort, Slot, Table, New, Register, Delete, 
 use Rattle.promise.specs.Promise.{Open, View}
 use Rattle.promise.specs.Calls.{slot_in, seen, NamedAs, OpenAs, uses, Grown, closes, Head, Unput, PagesPut, DirectoryPut, Holds, Turned}
 use Rattle.promise.specs.Examples.{after, counting}
-use Rattle.promise.specs.Splits.{extent_at, file_sector, with_page, full_root, left_leaf, right_leaf, longer_leaf, root_over, joined_root, full_catalog, split_catalog, longer_catalog, joined_catalog, full_shown, split_shown, longer_shown, joined_shown, open_at, store, full_store, split_store, longer_store, joined_store, named_table, full_table, split_table, Splits}
+use Rattle.promise.specs.Splits.{extent_at, file_sector, with_page, full_root, left_leaf, right_leaf, longer_leaf, root_over, joined_root, full_catalog, split_catalog, longer_catalog, joined_catalog, full_shown, split_shown, longer_shown, joined_shown, open_at, open_store, full_store, split_store, longer_store, joined_store, named_table, full_table, split_table, Splits}
 use Rattle.promise.specs.Ledger.{file_number}
 use Rattle.promise.proofs.Turning.{took-by, freed-by, directory-by, puts}
 use Rattle.promise.proofs.Witnesses.{none-later}
@@ -111,9 +111,9 @@ named-empty shown t f (e ∷ es) s (suc n) l =
     (ap (λ (x : File). x.closed) (f e.1), (λ _. ap (λ (x : File). x.bytes) (f e.1) ∙ no-bytes shown (extent_at s) refl), named-empty shown t f es (suc s) n (omega arith))
 
 -- STORES. The two open files are as they were begun
-open-empty : (y z : Sort) (free : List ℕ) (shown : ℕ → Contents) (t : Table) → ((n : ℕ) → t.files n ≡ empty_file) → OpenAs (seen (store y z free shown)) t (store y z free shown).slots (extent_at 26 ∷ extent_at 27 ∷ [])
+open-empty : (y z : Sort) (free : List ℕ) (shown : ℕ → Contents) (t : Table) → ((n : ℕ) → t.files n ≡ empty_file) → OpenAs (seen (open_store y z free shown)) t (open_store y z free shown).slots (extent_at 26 ∷ extent_at 27 ∷ [])
 open-empty y z free shown t f =
-    let v = seen (store y z free shown) in (
+    let v = seen (open_store y z free shown) in (
       (empty-laid v 26 refl (omega arith)).reaches,
       refl,
       ap (λ (x : File). x.bytes) (f 26) ∙ no-bytes v (extent_at 26) refl,
@@ -130,8 +130,8 @@ same-grown x y a b e = go x y a.0 b.0 a.1 b.1 e
         subst (λ (w : Extent). Grown x w) m (take_all (length x.parts) x.parts (omega arith), take_all (length x.tabs) x.tabs (omega arith))
 
 module _ (y z : Sort) (free : List ℕ) (shown : ℕ → Contents) (t : Table) (c : Catalog) (s n : ℕ) where
-  unfoldable holding : Lays 40 shown c → plain_tree c ≡ t.tree → c.files ≡ empty_extents s n → length (entries c) ≡ n → t.ready ≡ true → map slot_in (store y z free shown).slots ≡ t.slots → length free ≡ t.free →
-      ((m : ℕ) → t.files m ≡ empty_file) → all_apart (free ++ uses t c (extent_at 26 ∷ extent_at 27 ∷ [])) ≡ true → all_within 2 40 (free ++ (26 ∷ 27 ∷ [])) ≡ true → Proper t → Holds (store y z free shown) t
+  unfoldable holding : Lays 40 shown c → plain_tree c ≡ t.tree → c.files ≡ empty_extents s n → length (entries c) ≡ n → t.ready ≡ true → map slot_in (open_store y z free shown).slots ≡ t.slots → length free ≡ t.free →
+      ((m : ℕ) → t.files m ≡ empty_file) → all_apart (free ++ uses t c (extent_at 26 ∷ extent_at 27 ∷ [])) ≡ true → all_within 2 40 (free ++ (26 ∷ 27 ∷ [])) ≡ true → Proper t → Holds (open_store y z free shown) t
   holding l e q k r o g f a w p = record {
     size = refl;
     ready = sym r;
@@ -235,7 +235,7 @@ joined-holds = holding Registered Anonymous (counting 28 12) joined_shown joined
     (turns split_table joined_table (Delete (letter 0)) Done split-proper joined-turn)
 
 -- SLOTS 0 and 1 hold Y and Z
-open-slots : (y z : Sort) (free : List ℕ) (shown : ℕ → Contents) (s : ℕ) (o : Open) → get_or (store y z free shown).slots s None ≡ Some o → ((s ≡ 0) × (open_at 26 y ≡ Some o)) ⊎ ((s ≡ 1) × (open_at 27 z ≡ Some o))
+open-slots : (y z : Sort) (free : List ℕ) (shown : ℕ → Contents) (s : ℕ) (o : Open) → get_or (open_store y z free shown).slots s None ≡ Some o → ((s ≡ 0) × (open_at 26 y ≡ Some o)) ⊎ ((s ≡ 1) × (open_at 27 z ≡ Some o))
 open-slots y z free shown zero o e = inl (refl, e)
 open-slots y z free shown (suc zero) o e = inr (refl, e)
 open-slots y z free shown (suc (suc s)) o e = absurd (none-later 6 s o e)

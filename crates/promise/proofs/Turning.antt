@@ -1,5 +1,5 @@
 -- How a call on a settled disk is shown to be as it is promised.
-use Rattle.std.proofs.Common.{◌≡◌, ℕ, Bool, true, false, ◌⊎◌, List, [], ◌∷◌, length, get_or, Some, None, Option, sym, refl, ◌∙◌, subst, ap₂, inl, inr}
+use Rattle.std.proofs.Common.{◌≡◌, ℕ, Bool, true, false, ◌⊎◌, List, length, get_or, Some, None, Option, sym, refl, ◌∙◌, subst, ap₂, inl}
 use Rattle.std.specs.Prelude.{◌≢◌}
 use Rattle.numbers.specs.Names.{Key}
 use Rattle.disk.specs.Meaning.{Contents, Meaning, In}
@@ -10,7 +10,11 @@ use Rattle.promise.specs.Table.{Table, Call, New, Answer, Done, Slotted, No, cha
 use Rattle.promise.specs.Promise.{Open, View}
 use Rattle.promise.specs.Calls.{uses, says_three, closes, file_at, Unput, Head, DirectoryPut, Holds, Turned}
 use Rattle.promise.specs.Witnesses.{settled_disk, store}
+use Rattle.disk.proofs.Images.{only}
 use Rattle.promise.proofs.Holding.{catalog-one, extents-one}
+
+pub false-true : {A : Type 0} → false ≡ true → A
+false-true e = cc
 
 -- the sectors in use, and what relates the directories before and after, of one table that each store holds
 module _ (v v' : View) (t u t' u' : Table) (z : Sized v.disk.size v.disk.shown) (z' : Sized v'.disk.size v'.disk.shown) (h : Holds v t) (k : Holds v u) (k' : Holds v' u') where
@@ -41,7 +45,7 @@ module _ (m : Meaning) (slots slots' : List (Option Open)) (free free' : List �
     new = new;
     took = took;
     freed = λ _ s i. inl (freed s i);
-    answered = record { lost = (λ e. absurd (differ (sym n ∙ e)), λ e. absurd (differ (sym e ∙ l))); accepts = λ _ _. n; calm = λ e. e; size = refl };
+    answered = record { lost = (λ e. (false-true (sym n ∙ e)), λ e. (false-true (sym e ∙ l))); accepts = λ _ _. n; calm = λ e. e; size = refl };
     unput = λ f e b. (λ k x. refl, λ k x y i. i);
     settled = λ e. absurd (d e);
     head = λ s o e f g. absurd (d g);
@@ -49,13 +53,10 @@ module _ (m : Meaning) (slots slots' : List (Option Open)) (free free' : List �
     moved = λ e. absurd (d e);
     pages = λ e. absurd (d e);
   }
-    where
-      differ : false ≡ true → ⊥
-      differ e = cc
 
 -- CALLS that put and settle
 module _ (size : ℕ) (calm : Bool) (m : Meaning) (shown' : ℕ → Contents) (slots slots' : List (Option Open)) (free free' : List ℕ) (t : Table) (h : Holds (store slots free m) t) (same : size ≡ m.size)
-  (goes_on : m.calm ≡ true → calm ≡ true) where
+    (goes_on : m.calm ≡ true → calm ≡ true) where
   pub puts : (c : Call) (t' : Table) → Turn t c Done t' → t'.ready ≡ true → Holds (store slots' free' (settled_disk size calm shown')) t' →
       ((k : Holds (store slots' free' (settled_disk size calm shown')) t') (s : ℕ) → In s (uses t' k.catalog k.extents) → In s free ⊎ In s (uses t h.catalog h.extents)) →
       ((s : ℕ) → In s free' → In s free ⊎ In s (page_sectors h.catalog)) →
@@ -71,24 +72,17 @@ module _ (size : ℕ) (calm : Bool) (m : Meaning) (shown' : ℕ → Contents) (s
     new = λ n s e f. absurd (not-slotted s f);
     took = took;
     freed = λ _ s i. freed s i;
-    answered = record { lost = (λ e. absurd (differ e), λ e. absurd (differ (sym e))); accepts = λ _ _. refl; calm = goes_on; size = same };
+    answered = record { lost = (λ e. (false-true e), λ e. (false-true (sym e))); accepts = λ _ _. refl; calm = goes_on; size = same };
     unput = λ f e b. absurd (not-no f e);
-    settled = λ _ k x l i. only k x i;
+    settled = λ _ k x l i. only i;
     head = λ s o e f _. head s o e f;
     others = others;
     moved = λ _ k. (directory k).0;
     pages = λ _ k. (directory k).1;
   }
     where
-      differ : false ≡ true → ⊥
-      differ e = cc
-
       not-slotted : (s : ℕ) → Done ≡ Slotted s → ⊥
       not-slotted s e = cc
 
       not-no : (f : FileFault) → Done ≡ No f → ⊥
       not-no f e = cc
-
-      only : (k : ℕ) (x : Contents) → In x (shown' k ∷ []) → x ≡ shown' k
-      only k x (inl e) = e
-      only k x (inr i) = absurd i

@@ -1,6 +1,6 @@
 -- Calls on the small store, each as it is promised.
-use Rattle.std.proofs.Common.{◌≡◌, ℕ, zero, suc, Bool, true, false, ◌⊎◌, [], ◌∷◌, length, get_or, replicate, Some, None, Option, sym, refl, ap, ◌∙◌, subst, inl, inr, arith}
-use Rattle.std.specs.Prelude.{cond, ◌==◌, ◌≢◌}
+use Rattle.std.proofs.Common.{◌≡◌, ◌++◌, ◌≤◌, ℕ, zero, suc, Bool, true, false, ◌⊎◌, [], ◌∷◌, length, get_or, replicate, Some, None, Option, sym, refl, ap, ◌∙◌, subst, inl, inr, arith}
+use Rattle.std.specs.Prelude.{cond, ◌==◌, ◌≢◌, codes}
 use Rattle.std.proofs.lemmas.Option.{none-some, same_Some}
 use Rattle.numbers.specs.Names.{Key}
 use Rattle.layout.specs.Words.{blank}
@@ -10,21 +10,18 @@ use Rattle.catalog.specs.Laws.{Sized}
 use Rattle.promise.specs.declared.fault.FileFault.{FileFault}
 use Rattle.promise.specs.declared.fault.FileFault.TheVariants.{NoRoom}
 use Rattle.promise.specs.Faults.{is_three, by_disk}
-use Rattle.promise.specs.Table.{File, Sort, Anonymous, Registered, Slot, Table, Call, New, Old, Delete, Write, Register, Close, Answer, Done, Slotted, Wrote, No, slot_at, changes, plain, waits, formatted, Spare, Turn, said, gone, Proper}
+use Rattle.promise.specs.Table.{File, Sort, Anonymous, Registered, Slot, Table, Call, New, Old, Delete, Set, Read, Write, Register, Close, Names, Answer, Done, Slotted, Riding, HasRead, Wrote, Named, No, NoRead, NoNames, slot_at, gives, moved, filled, changes, plain, waits, formatted, Spare, MayTake, Turn, said, gone, gone_read, gone_names, Proper}
 use Rattle.promise.specs.Promise.{Open, View}
-use Rattle.promise.specs.Calls.{seen, NamedAs, OpenAs, file_at, Head, DirectoryPut, Holds, Turned}
-use Rattle.promise.specs.Examples.{at, hall, lost}
-use Rattle.promise.specs.Witnesses.{sector_count, disk_of, contents, in_second, hall_sector, first_bytes, hall_entry, none_open, hall_open, free_after, formatted_store, new_store, written_store, registered_store, closed_store, deleted_store, lost_store, Does, Witnesses, Refused}
+use Rattle.promise.specs.Calls.{seen, NamedAs, OpenAs, file_at, Head, DirectoryPut, Holds, Turned, says_three}
+use Rattle.promise.specs.Examples.{at, at_end, hall, row, no_row, lost}
+use Rattle.promise.specs.Witnesses.{sector_count, disk_of, contents, in_second, hall_sector, first_bytes, hall_entry, none_open, hall_open, free_after, formatted_store, new_store, written_store, registered_store, closed_store, deleted_store, lost_store, Does, Witnesses, Refused, waiting, off}
 use Rattle.promise.proofs.Slots.{no-slot}
 use Rattle.promise.proofs.StayProper.{turns, formatted-proper}
 use Rattle.promise.proofs.Holding.{catalog-one, extents-one, holds-one}
-use Rattle.promise.proofs.Turning.{took-by, directory-by, quiet, puts}
+use Rattle.promise.proofs.Turning.{false-true, took-by, directory-by, quiet, puts}
 use Rattle.promise.proofs.Cards.{root-empty, root-hall, hall-long, hall-laid, hall-bytes, no-bytes, contents-long}
 use Rattle.promise.proofs.Restarts.{format-done, format-lost, format-small, start-done, start-forgets, start-lost, start-small}
 use Rattle.promise.proofs.Stores.{formatted-holds, new-holds, written-holds, registered-holds, closed-holds, deleted-holds}
-
-false-true : false ≡ true → ⊥
-false-true e = cc
 
 -- TABLES that a store holds: like one of them, but for the files
 abbrev over : Table → (ℕ → File) → Table
@@ -36,14 +33,11 @@ same-table t u a b c d = rw (← a, ← b, ← c, ← d) refl
 does : (v v' : View) (u : Table) (c : Call) (a : Answer) → Sized v.disk.size v.disk.shown → Holds v u → v.ready ≡ true → v'.disk.size ≡ v.disk.size →
     ((f : ℕ → File) (h : Holds v (over u f)) → Turned v (over u f) h c a v') → Does v c a v'
 does v v' u c a z k r s g = record {
-  waits = λ e. absurd (differ (sym e ∙ r));
+  waits = λ e. false-true (sym e ∙ r);
   turns = λ _ t h. (let q = holds-one v t u z h k in subst (λ (t : Table). (h : Holds v t) → Turned v t h c a v') (sym (same-table t u q.ready q.tree q.slots q.free)) (g t.files) h);
   size = s;
   keeps = λ l k. tt;
 }
-  where
-    differ : false ≡ true → ⊥
-    differ e = cc
 
 sized-empty : (second : Contents) → length second ≡ 1024 → Sized sector_count (contents [] second)
 sized-empty second l s _ = contents-long [] second root-empty.1 l s
@@ -58,7 +52,7 @@ none-later zero k o e = none-some o e
 none-later (suc n) zero o e = none-some o e
 none-later (suc n) (suc k) o e = none-later n k o e
 
-first-only : {A : Type 0} (x : Option A) (s : ℕ) (o : A) → Some 0 ≢ Some s → get_or (x ∷ replicate 7 None) s None ≡ Some o → ⊥
+pub first-only : {A : Type 0} (x : Option A) (s : ℕ) (o : A) → Some 0 ≢ Some s → get_or (x ∷ replicate 7 None) s None ≡ Some o → ⊥
 first-only x zero o n e = n refl
 first-only x (suc s) o n e = none-later 7 s o e
 
@@ -254,17 +248,78 @@ module _ (calm : Bool) (f : ℕ → File) where
       first s (inl e) = inl e
       first s (inr i) = absurd i
 
+-- SET, READ and LIST change nothing
+module _ (calm : Bool) (f : ℕ → File) (h : Holds (registered_store calm) (over registered_table f)) where
+  hall-bytes-now : (f 2).bytes ≡ first_bytes
+  unfolding registered-holds
+  hall-bytes-now =
+      (open-as (registered_store calm) (over registered_table f) registered_table z₁ h (registered-holds calm registered_table.files refl refl registered-proper)).2 ∙ sym (hall-bytes (seen (registered_store calm)) refl)
+
+  hall-closed-now : (f 2).closed ≡ 5
+  unfolding registered-holds
+  hall-closed-now = (named-as (registered_store calm) (over registered_table f) registered_table z₁ h (registered-holds calm registered_table.files refl refl registered-proper)).0
+
+  still-turns : (c : Call) (a : Answer) → plain (over registered_table f) 0 c ≡ (a, over registered_table f) → MayTake (over registered_table f) c 0 → says_three a ≡ false → (a ≡ Done → ⊥) → ((s : ℕ) → a ≡ Slotted s → ⊥) →
+      Turned (registered_store calm) (over registered_table f) h c a (registered_store calm)
+  still-turns c a e m n d w =
+      let t = over registered_table f in
+      let v = registered_store calm in
+      quiet v.disk v.slots v.slots v.free v.free t h c a t (subst (λ (r : Answer × Table). Turn t c r.0 r.1) e (said c 0 m)) refl h refl n d
+      (λ k s x g. absurd (w s g)) (took-by v v t t t t z₁ z₁ h h h (λ s i. inr i)) (λ s i. i)
+
+  set-turns : Turned (registered_store calm) (over registered_table f) h (Set 0 9) (Riding (at 0 5)) (registered_store calm)
+  set-turns = still-turns (Set 0 9) (Riding (at 0 5)) (rw hall-bytes-now refl) refl refl (λ e. cc) (λ s e. cc)
+
+  read-turns : Turned (registered_store calm) (over registered_table f) h (Read (at 0 2) (replicate 10 0)) (HasRead 3 (at_end 0 5) (codes "rst" ++ replicate 7 0)) (registered_store calm)
+  read-turns = still-turns (Read (at 0 2) (replicate 10 0)) (HasRead 3 (at_end 0 5) (codes "rst" ++ replicate 7 0)) (rw hall-bytes-now refl) refl refl (λ e. cc) (λ s e. cc)
+
+  list-turns : Turned (registered_store calm) (over registered_table f) h (Names (no_row ∷ [])) (Named 1 (row 2 5 ∷ [])) (registered_store calm)
+  list-turns = still-turns (Names (no_row ∷ [])) (Named 1 (row 2 5 ∷ [])) (rw hall-closed-now refl) refl refl (λ e. cc) (λ s e. cc)
+
+-- a call that puts nothing, and is not answered
+module _ (f : ℕ → File) (h : Holds (registered_store false) (over registered_table f)) where
+  gone-turns : (c : Call) (a : Answer) → Turn (over registered_table f) c a (waits (over registered_table f)) → says_three a ≡ true → ((r : FileFault) → a ≡ No r → ⊥) → (a ≡ Done → ⊥) → ((s : ℕ) → a ≡ Slotted s → ⊥) →
+      Turned (registered_store false) (over registered_table f) h c a (waiting (off (registered_store false).disk))
+  gone-turns c a u n r d w = record {
+    table = waits (over registered_table f);
+    turn = u;
+    ready = refl;
+    holds = λ e. false-true e;
+    new = λ k s e g. absurd (w s g);
+    took = λ k s i. false-true k.live;
+    freed = λ k s i. false-true k.live;
+    answered = record { lost = (λ _. refl, λ _. n); accepts = λ e _. false-true e; calm = λ e. e; size = refl };
+    unput = λ q e b. absurd (r q e);
+    settled = λ e. absurd (d e);
+    head = λ s o e g q. absurd (d q);
+    others = λ s o e i. (refl, λ x j. j);
+    moved = λ e. absurd (d e);
+    pages = λ e. absurd (d e);
+  }
+
+  read-lost : Turned (registered_store false) (over registered_table f) h (Read (at 0 2) (replicate 10 0)) (NoRead lost 1 (at 0 3) (codes "r" ++ replicate 9 0)) (waiting (off (registered_store false).disk))
+  read-lost =
+      let b = hall-bytes-now false f h in
+      let t = over registered_table f in
+      let c = Read (at 0 2) (replicate 10 0) in
+      let k : 1 ≤ gives t (at 0 2) (replicate 10 0) = rw b (omega arith) in
+      let e : NoRead lost 1 (moved t (at 0 2) 1 false) (filled t (at 0 2) 1 (replicate 10 0)) ≡ NoRead lost 1 (at 0 3) (codes "r" ++ replicate 9 0) = rw b refl in
+      gone-turns c (NoRead lost 1 (at 0 3) (codes "r" ++ replicate 9 0)) (subst (λ (a : Answer). Turn t c a (waits t)) e (gone_read (at 0 2) (replicate 10 0) lost 1 refl refl k)) refl (λ r e. cc) (λ e. cc) (λ s e. cc)
+
+  list-lost : Turned (registered_store false) (over registered_table f) h (Names (no_row ∷ [])) (NoNames lost 0 (no_row ∷ [])) (waiting (off (registered_store false).disk))
+  list-lost = gone-turns (Names (no_row ∷ [])) (NoNames lost 0 (no_row ∷ [])) (gone_names (no_row ∷ []) lost 0 refl refl (omega arith)) refl (λ r e. cc) (λ e. cc) (λ s e. cc)
+
 -- A REGISTER whose Settle is gone
 register-lost : (f : ℕ → File) (h : Holds (written_store false) (over written_table f)) → Turned (written_store false) (over written_table f) h (Register 0) (No (by_disk lost)) lost_store
 register-lost f h = record {
   table = waits (over written_table f);
   turn = gone (Register 0) lost refl refl refl;
   ready = refl;
-  holds = λ e. absurd (false-true e);
+  holds = λ e. false-true e;
   new = λ n s e g. absurd (no-slotted s g);
-  took = λ k s i. absurd (false-true k.live);
-  freed = λ k s i. absurd (false-true k.live);
-  answered = record { lost = (λ _. refl, λ _. refl); accepts = λ e _. absurd (false-true e); calm = λ e. e; size = refl };
+  took = λ k s i. false-true k.live;
+  freed = λ k s i. false-true k.live;
+  answered = record { lost = (λ _. refl, λ _. refl); accepts = λ e _. false-true e; calm = λ e. e; size = refl };
   unput = λ r e b. absurd (three r e b);
   settled = λ e. absurd (no-done e);
   head = λ s o e g d. absurd (no-done d);
@@ -285,7 +340,9 @@ register-lost f h = record {
 pub refused : Refused
 refused = record {
   register = does (written_store false) lost_store written_table (Register 0) (No (by_disk lost)) z₀ (written-holds false written_table.files refl written-proper) refl refl register-lost;
-  after = record { waits = λ _. (refl, refl); turns = λ e. absurd (false-true e); size = refl; keeps = λ l k. tt };
+  read = does (registered_store false) (waiting (off (registered_store false).disk)) registered_table (Read (at 0 2) (replicate 10 0)) (NoRead lost 1 (at 0 3) (codes "r" ++ replicate 9 0)) z₁ (registered-holds false registered_table.files refl refl registered-proper) refl refl read-lost;
+  list = does (registered_store false) (waiting (off (registered_store false).disk)) registered_table (Names (no_row ∷ [])) (NoNames lost 0 (no_row ∷ [])) z₁ (registered-holds false registered_table.files refl refl registered-proper) refl refl list-lost;
+  after = record { waits = λ _. (refl, refl); turns = λ e. false-true e; size = refl; keeps = λ l k. tt };
   start = start-forgets;
   start_lost = start-lost;
   format = format-lost;
@@ -305,4 +362,7 @@ witnesses calm = record {
   old = does (closed_store calm) (registered_store calm) closed_table (Old hall) (Slotted 0) z₁ (closed-holds calm closed_table.files refl refl closed-proper) refl refl (old-turns calm);
   delete = does (closed_store calm) (deleted_store calm) closed_table (Delete hall) Done z₁ (closed-holds calm closed_table.files refl refl closed-proper) refl refl (delete-turns calm);
   refused = does (new_store calm) (new_store calm) new_table (New []) (No NoRoom) z₀ (new-holds calm new_table.files refl new-proper) refl refl (refused-turns calm);
+  set = does (registered_store calm) (registered_store calm) registered_table (Set 0 9) (Riding (at 0 5)) z₁ (registered-holds calm registered_table.files refl refl registered-proper) refl refl (set-turns calm);
+  read = does (registered_store calm) (registered_store calm) registered_table (Read (at 0 2) (replicate 10 0)) (HasRead 3 (at_end 0 5) (codes "rst" ++ replicate 7 0)) z₁ (registered-holds calm registered_table.files refl refl registered-proper) refl refl (read-turns calm);
+  list = does (registered_store calm) (registered_store calm) registered_table (Names (no_row ∷ [])) (Named 1 (row 2 5 ∷ [])) z₁ (registered-holds calm registered_table.files refl refl registered-proper) refl refl (list-turns calm);
 }

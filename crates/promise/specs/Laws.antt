@@ -1,9 +1,9 @@
 -- What holds of the table, of the ledger, and of the two together.
-use Rattle.std.specs.Prelude.{◌≡◌, ℕ, ◌+◌, ◌<◌, ◌≤◌, true, false, List, [], ◌++◌, map, length, get_or, Some, None, slice_index_or}
+use Rattle.std.specs.Prelude.{◌≡◌, ℕ, ◌+◌, ◌<◌, ◌≤◌, true, false, List, [], ◌++◌, map, length, get_or, Some, None, slice_index, slice_index_or}
 use Rattle.numbers.specs.Names.{Key}
 use Rattle.tree.specs.Tree.{Entry, to_list}
 use Rattle.disk.specs.Meaning.{Contents, In}
-use Rattle.catalog.specs.Catalogs.{Catalog, bytes_of}
+use Rattle.catalog.specs.Catalogs.{Extent, Catalog, page_sectors, file_sectors, bytes_of}
 use Rattle.catalog.specs.Laws.{Sized}
 use Rattle.promise.specs.declared.fault.FileFault.{FileFault}
 use Rattle.promise.specs.Faults.{is_three}
@@ -70,3 +70,12 @@ pub record Alike (t t' : Table) : Type 0 where
 
 abbrev pub HoldsOne : Type 0
 HoldsOne = (v : View) (t t' : Table) → Sized v.disk.size v.disk.shown → Holds v t → Holds v t' → Alike t t'
+
+-- MEMORY AND DISK. No free sector is laid down, and no page lies in a sector of an open file; what is laid down there is the same file
+pub record Clear (v : View) (t : Table) (h : Holds v t) : Type 0 where
+  pub free : (s : ℕ) → In s v.free → In s (page_sectors h.catalog ++ file_sectors h.catalog) → ⊥
+  pub pages : (y : Extent) (s : ℕ) → In y h.extents → In s (y.parts ++ y.tabs) → In s (page_sectors h.catalog) → ⊥
+  pub files : (x y : Extent) (s : ℕ) → In x h.catalog.files → In y h.extents → In s (x.parts ++ x.tabs) → In s (y.parts ++ y.tabs) → slice_index x.parts 0 ≡ slice_index y.parts 0
+
+abbrev pub HoldsClear : Type 0
+HoldsClear = (v : View) (t : Table) (h : Holds v t) → Clear v t h

@@ -9,3 +9,5 @@ pub mod Laws
 pub mod Examples
 pub mod Witnesses
 pub mod Splits
+pub mod Growing
+pub mod Replacing

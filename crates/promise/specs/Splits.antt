@@ -75,20 +75,20 @@ joined_shown = with_page 0 joined_root (with_page 0 left_leaf (with_page 0 right
 abbrev pub open_at : ℕ → Sort → Option Open
 open_at s sort = Some (record { slot = record { file = s; sort = sort; name = letter (s - 2); handles = 1 }; long = 0; first = file_sector s })
 
-abbrev pub store : Sort → Sort → List ℕ → (ℕ → Contents) → View
-store y z free shown = record { ready = true; slots = open_at 26 y ∷ open_at 27 z ∷ replicate 6 None; free = free; disk = settled_disk 40 true shown }
+abbrev pub open_store : Sort → Sort → List ℕ → (ℕ → Contents) → View
+open_store y z free shown = record { ready = true; slots = open_at 26 y ∷ open_at 27 z ∷ replicate 6 None; free = free; disk = settled_disk 40 true shown }
 
 abbrev pub full_store : View
-full_store = store Anonymous Anonymous (counting 28 12) full_shown
+full_store = open_store Anonymous Anonymous (counting 28 12) full_shown
 
 abbrev pub split_store : View
-split_store = store Registered Anonymous (counting 30 10) split_shown
+split_store = open_store Registered Anonymous (counting 30 10) split_shown
 
 abbrev pub longer_store : View
-longer_store = store Registered Registered (29 ∷ counting 31 9) longer_shown
+longer_store = open_store Registered Registered (29 ∷ counting 31 9) longer_shown
 
 abbrev pub joined_store : View
-joined_store = store Registered Anonymous (counting 28 12) joined_shown
+joined_store = open_store Registered Anonymous (counting 28 12) joined_shown
 
 -- the tables that they hold
 abbrev pub named_table : Table

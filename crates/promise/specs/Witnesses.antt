@@ -12,11 +12,11 @@ use Rattle.catalog.specs.Written.{page_data, header_of}
 use Rattle.catalog.specs.declared.fault.LayoutFault.TheVariants.{BadSize}
 use Rattle.promise.specs.declared.fault.FileFault.TheVariants.{Waiting, NoRoom}
 use Rattle.promise.specs.Faults.{by_disk, by_layout}
-use Rattle.promise.specs.Table.{Sort, Anonymous, Registered, Call, New, Old, Delete, Write, Register, Close, Answer, Done, Slotted, Wrote, No, formatted}
+use Rattle.promise.specs.Table.{Sort, Anonymous, Registered, Call, New, Old, Delete, Set, Read, Write, Register, Close, Names, Answer, Done, Slotted, Riding, HasRead, Wrote, Named, No, NoRead, NoNames, formatted}
 use Rattle.promise.specs.Ledger.{Ledger}
 use Rattle.promise.specs.Promise.{Open, View}
 use Rattle.promise.specs.Calls.{Holds, Formatted, Did, Starts}
-use Rattle.promise.specs.Examples.{at, hall, lost}
+use Rattle.promise.specs.Examples.{at, at_end, hall, row, no_row, lost}
 
 -- THE DISK: eleven sectors with these contents, live and settled; calm or not
 abbrev pub sector_count : ℕ
@@ -122,12 +122,17 @@ pub record Witnesses (calm : Bool) : Type 0 where
   pub start : Starts Kept (waiting (off (closed_store calm).disk)) Done (closed_store calm)
   pub old : Does (closed_store calm) (Old hall) (Slotted 0) (registered_store calm)
   pub delete : Does (closed_store calm) (Delete hall) Done (deleted_store calm)
+  pub set : Does (registered_store calm) (Set 0 9) (Riding (at 0 5)) (registered_store calm)
+  pub read : Does (registered_store calm) (Read (at 0 2) (replicate 10 0)) (HasRead 3 (at_end 0 5) (codes "rst" ++ replicate 7 0)) (registered_store calm)
+  pub list : Does (registered_store calm) (Names (no_row ∷ [])) (Named 1 (row 2 5 ∷ [])) (registered_store calm)
   -- eight sectors are free, and New would leave seven
   pub refused : Does (new_store calm) (New []) (No NoRoom) (new_store calm)
 
 -- 3, and 1
 pub record Refused : Type 0 where
   pub register : Does (written_store false) (Register 0) (No (by_disk lost)) lost_store
+  pub read : Does (registered_store false) (Read (at 0 2) (replicate 10 0)) (NoRead lost 1 (at 0 3) (codes "r" ++ replicate 9 0)) (waiting (off (registered_store false).disk))
+  pub list : Does (registered_store false) (Names (no_row ∷ [])) (NoNames lost 0 (no_row ∷ [])) (waiting (off (registered_store false).disk))
   pub after : Does lost_store (Close 0) (No Waiting) lost_store
   pub start : Starts Kept lost_store Done forgotten_store
   pub start_lost : Starts Kept lost_store (No (by_disk lost)) (waiting lost_disk)

@@ -1,8 +1,10 @@
 //! What holds of the table, of the ledger, and of the two together, each stated by the contract of a function.
 
 ghost use Rattle.std.specs.Prelude.{Bool};
-ghost use Rattle.promise.specs.Laws.{StaysProper, Accounts, Refusals, StaysSane, RestartForgets, StayTogether, HoldsOne};
+ghost use Rattle.promise.specs.Laws.{StaysProper, Accounts, Refusals, StaysSane, RestartForgets, StayTogether, HoldsOne, HoldsClear};
 ghost use Rattle.promise.specs.Witnesses.{Witnesses, Refused};
+ghost use Rattle.promise.specs.Growing.{Growing};
+ghost use Rattle.promise.specs.Replacing.{Replacing};
 ghost use Rattle.promise.specs.Splits.{Splits};
 
 /// Every call keeps the table proper, whatever it answers.
@@ -35,18 +37,29 @@ pub fn together_stand()
     ensures { StayTogether }
 {}
 
-/// A store holds one table, as far as anything of it can be seen.
+/// A store holds one table, as far as anything of it can be seen. What it has free and open is clear of what else is laid down.
 pub fn holds_stands()
-    ensures { HoldsOne }
+    ensures one { HoldsOne }
+    ensures clear { HoldsClear }
 {}
 
-/// What the calls promise can be kept: calls on a small store, each as it is promised.
+/// What the calls promise can be kept: each of them on a small store, accepted and refused, is as it is promised.
 pub fn witnesses_stand()
     ensures done { (calm : Bool) → Witnesses calm }
     ensures refused { Refused }
 {}
 
-/// It can be kept where pages are split and joined too.
+/// What Register and Delete promise can be kept where pages are split and joined.
 pub fn splits_stand()
     ensures { Splits }
+{}
+
+/// What Write and Close promise can be kept where a file grows past the sectors that are laid down.
+pub fn growing_stands()
+    ensures { Growing }
+{}
+
+/// What Register and Close promise can be kept where a name is taken over while its old file is open.
+pub fn replacing_stands()
+    ensures { Replacing }
 {}
