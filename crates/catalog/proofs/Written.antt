@@ -117,7 +117,7 @@ filled-small (x ∷ l) m h = (h x (inl refl), filled-small l m (λ s i. h s (inr
 addresses-long : (n : ℕ) (l : List ℕ) → length l ≤ n → length (addresses n l) ≡ n
 addresses-long n l h = length-map (l ++ replicate (n - length l) 0) address_of ∙ (length-append l (replicate (n - length l) 0) ∙ omega (arith, length-replicate {A = ℕ} (n - length l) 0))
 
-pub in_take : (n : ℕ) (l : List ℕ) (p : ℕ) → In p (take n l) → In p l
+in_take : (n : ℕ) (l : List ℕ) (p : ℕ) → In p (take n l) → In p l
 in_take zero l p h = absurd h
 in_take (suc n) [] p h = absurd h
 in_take (suc n) (x ∷ l) p (inl e) = inl e

@@ -1,18 +1,21 @@
 -- Calls by which a file grows, each as it is promised.
+use Rattle.promise.proofs.Holding.{catalog-one}
+use Rattle.numbers.specs.Names.{Key}
 use Rattle.std.proofs.Common.{◌≡◌, ℕ, zero, suc, ◌^◌, ◌<◌, true, ◌⊎◌, [], ◌∷◌, ◌++◌, length, get_or, take, replicate, Some, None, sym, refl, ap, ◌∙◌, subst, inl, inr, arith}
 use Rattle.std.specs.Prelude.{◌==◌, ◌≢◌}
 use Rattle.std.proofs.lemmas.Bool.{cond_both}
 use Rattle.std.proofs.lemmas.Option.{same_Some}
 use Rattle.numbers.specs.Lengths.{sector_size, header_size}
 use Rattle.numbers.specs.Sectors.{address}
+use Rattle.tree.specs.Tree.{Entry}
 use Rattle.disk.specs.Meaning.{Contents, In}
-use Rattle.catalog.specs.Catalogs.{Extent, page_sectors, outside, bytes_of, range}
+use Rattle.catalog.specs.Catalogs.{Extent, page_sectors, outside, bytes_of, range, Catalog, entries}
 use Rattle.catalog.specs.Lays.{FileAt, Lays}
 use Rattle.catalog.specs.Laws.{Sized}
 use Rattle.catalog.proofs.Written.{head-written}
 use Rattle.promise.specs.declared.fault.FileFault.TheVariants.{NoRoom}
 use Rattle.promise.specs.declared.fault.FileFault.{FileFault}
-use Rattle.promise.specs.Table.{Slot, Table, New, Write, Register, Close, Done, Slotted, Wrote, No, Registered, slot_at, changes, formatted, Spare, Turn, said, Proper}
+use Rattle.promise.specs.Table.{Slot, Table, New, Write, Register, Close, Done, Slotted, Wrote, No, Registered, slot_at, changes, formatted, Spare, Turn, said, Proper, holder, slot_count}
 use Rattle.promise.specs.Promise.{Open}
 use Rattle.promise.specs.Calls.{seen, Grown, closes, Head, Unput, DirectoryPut, Holds, Turned}
 use Rattle.promise.specs.Examples.{after, at, hall, counting}
@@ -20,7 +23,7 @@ use Rattle.promise.specs.Witnesses.{contents, in_second, hall_sector, first_byte
 use Rattle.promise.specs.Growing.{more_bytes, in_two, longer_sector, with_third, short_shown, grown_disk, longer_shown, short_store, longer_open, grown_store, longer_store, short_table, grown_table, Growing}
 use Rattle.promise.proofs.StayProper.{turns, formatted-proper}
 use Rattle.promise.proofs.Slots.{no-slot}
-use Rattle.promise.proofs.Turning.{false-true, took-by, directory-by, quiet, puts}
+use Rattle.promise.proofs.Turning.{false-true, took-by, directory-by, quiet, turning}
 use Rattle.promise.proofs.Witnesses.{none-later, first-only}
 use Rattle.promise.proofs.Cards.{either-in, distinct, within, root-hall, contents-long, hall-laid, hall-long, hall-bytes, one_file, lays-one}
 
@@ -165,9 +168,11 @@ write-turns h = record {
   unput = λ r e b. absurd (not-no r e);
   settled = λ e. absurd (not-done e);
   head = λ s o e f d. absurd (not-done d);
+  still = λ e. false-true (sym e);
   others = λ s o n e. others s o e;
-  moved = λ e. absurd (not-done e);
-  pages = λ e. absurd (not-done e);
+  unopened = λ e i o. stays e (subst (λ (c : Catalog). In e (entries c)) (catalog-one short_store short_table short_table short-sized h short-holds) i);
+  moved = λ k. (directory k).0;
+  pages = λ k. (directory k).1;
 }
   where
     not-done : Wrote 668 (at 0 673) ≡ Done → ⊥
@@ -182,14 +187,25 @@ write-turns h = record {
     unput : Unput short_store grown_store 2
     unput = (refl, λ x i. elim i [ inl e ↦ inl e | inr j ↦ j ])
 
+    stays : (e : Entry Key) → In e ((hall, 2) ∷ []) → Unput short_store grown_store e.1
+    stays e (inl q) = subst (λ (d : Entry Key). Unput short_store grown_store d.1) (sym q) unput
+    stays e (inr i) = absurd i
+
+    directory : (k : Holds grown_store grown_table) → (length (outside (page_sectors h.catalog) (page_sectors k.catalog)) ≡ changes short_table grown_table.tree) × DirectoryPut h.catalog short_store.disk.shown grown_store.disk.shown k.catalog
+    directory = directory-by short_store grown_store short_table short_table grown_table grown_table short-sized grown-sized h short-holds grown-holds
+        (λ c d. (length (outside (page_sectors c) (page_sectors d)) ≡ changes short_table grown_table.tree) × DirectoryPut c short_store.disk.shown grown_store.disk.shown d) (refl, (inl refl, (tt, (tt, tt))))
+
     others : (s : ℕ) (o : Open) → (get_or short_store.slots s None ≡ Some o) ⊎ (get_or grown_store.slots s None ≡ Some o) → Unput short_store grown_store o.slot.file
     others zero o (inl e) = subst (λ (x : Open). Unput short_store grown_store x.slot.file) (same_Some (record { slot = record { file = 2; sort = Registered; name = hall; handles = 1 }; long = 5; first = hall_sector 5 first_bytes }) o e) unput
     others zero o (inr e) = subst (λ (x : Open). Unput short_store grown_store x.slot.file) (same_Some (record { slot = record { file = 2; sort = Registered; name = hall; handles = 1 }; long = 673; first = longer_sector }) o e) unput
     others (suc s) o e = absurd (elim e [ inl a ↦ none-later 7 s o a | inr a ↦ none-later 7 s o a ])
 
 refused-turns : (h : Holds grown_store grown_table) → Turned grown_store grown_table h (New []) (No NoRoom) grown_store
+unfolding grown-holds
 refused-turns h = quiet grown_disk longer_open longer_open (counting 4 8) (counting 4 8) grown_table h (New []) (No NoRoom) grown_table (said (New []) 4 spare) refl h refl refl (λ e. cc)
     (λ n s e g. absurd (not-slotted s g)) (took-by grown_store grown_store grown_table grown_table grown_table grown_table grown-sized grown-sized h h h (λ s i. inr i)) (λ s i. i)
+    (directory-by grown_store grown_store grown_table grown_table grown_table grown_table grown-sized grown-sized h grown-holds grown-holds
+    (λ c d. (length (outside (page_sectors c) (page_sectors d)) ≡ changes grown_table grown_table.tree) × DirectoryPut c grown_disk.shown grown_disk.shown d) (refl, (inl refl, (tt, (tt, tt)))))
   where
     not-slotted : (s : ℕ) → No NoRoom ≡ Slotted s → ⊥
     not-slotted s e = cc
@@ -204,13 +220,19 @@ refused-turns h = quiet grown_disk longer_open longer_open (counting 4 8) (count
 close-turns : (h : Holds grown_store grown_table) → Turned grown_store grown_table h (Close 0) Done longer_store
 unfolding grown-holds longer-holds
 close-turns h =
-    puts 12 true grown_disk longer_shown longer_open none_open (counting 4 8) (counting 4 8) grown_table h refl (λ e. e) (Close 0) longer_table close-turn refl longer-holds
+    turning 12 true grown_disk longer_shown longer_open none_open (counting 4 8) (counting 4 8) grown_table h refl (λ e. e) (Close 0) longer_table refl close-turn refl longer-holds
     (took-by grown_store longer_store grown_table grown_table longer_table longer_table grown-sized longer-sized h grown-holds longer-holds (λ s i. inr i))
     (λ s i. inl i) head
     (λ s o n e. absurd (elim e [ inl a ↦ first-only _ s o n a | inr a ↦ none-later 8 s o a ]))
+    (λ e i o. stays e (subst (λ (c : Catalog). In e (entries c)) (catalog-one grown_store grown_table grown_table grown-sized h grown-holds) i) o)
     (directory-by grown_store longer_store grown_table grown_table longer_table longer_table grown-sized longer-sized h grown-holds longer-holds
     (λ c d. (length (outside (page_sectors c) (page_sectors d)) ≡ changes grown_table longer_table.tree) × DirectoryPut c (with_third short_shown) longer_shown d) (refl, (inl refl, (tt, (tt, tt)))))
   where
+    -- a slot holds it
+    stays : (e : Entry Key) → In e ((hall, 2) ∷ []) → holder e.1 grown_table.slots ≡ slot_count → Unput grown_store longer_store e.1
+    stays e (inl q) o = let z : ◌≡◌ {A = ℕ} 0 8 = subst (λ (d : Entry Key). holder d.1 grown_table.slots ≡ slot_count) q o in absurd (omega (arith, z))
+    stays e (inr i) o = absurd i
+
     head : (s : ℕ) (o : Open) → closes (Close 0) ≡ Some s → get_or longer_open s None ≡ Some o → Head o (longer_table.files o.slot.file) longer_shown
     head s o e f =
         let x : Open = record { slot = record { file = 2; sort = Registered; name = hall; handles = 1 }; long = 673; first = longer_sector } in

@@ -1,4 +1,6 @@
 -- Calls by which a name is taken over while its old file is open, each as it is promised.
+use Rattle.promise.proofs.Holding.{catalog-one}
+use Rattle.numbers.specs.Names.{Key}
 use Rattle.std.proofs.Common.{◌≡◌, ℕ, zero, suc, ◌^◌, ◌<◌, ◌⊎◌, true, cond, [], ◌∷◌, ◌++◌, length, get_or, take, Some, None, sym, refl, ap, ◌∙◌, subst, inl, inr, arith}
 use Rattle.std.specs.Prelude.{◌==◌, ◌≢◌, slice_index}
 use Rattle.std.proofs.lemmas.Bool.{cond_both}
@@ -6,9 +8,9 @@ use Rattle.std.proofs.lemmas.Option.{same_Some}
 use Rattle.numbers.specs.Lengths.{sector_size, header_size}
 use Rattle.numbers.specs.Sectors.{address}
 use Rattle.layout.specs.Words.{blank}
-use Rattle.tree.specs.Tree.{item, page}
+use Rattle.tree.specs.Tree.{Entry, item, page}
 use Rattle.disk.specs.Meaning.{Contents, In}
-use Rattle.catalog.specs.Catalogs.{Extent, Catalog, page_sectors, outside, bytes_of, range}
+use Rattle.catalog.specs.Catalogs.{Extent, Catalog, page_sectors, outside, bytes_of, range, entries}
 use Rattle.catalog.specs.Lays.{PageAt, FileAt, Lays}
 use Rattle.catalog.specs.Laws.{Sized}
 use Rattle.catalog.proofs.Written.{page-written, head-written}
@@ -20,7 +22,7 @@ use Rattle.promise.specs.Witnesses.{root_of, first_bytes}
 use Rattle.promise.specs.Replacing.{file_in, sector_in, shown_to, open_in, both_store, taken_store, left_store, both_table, taken_table, Replacing}
 use Rattle.promise.proofs.StayProper.{turns, formatted-proper}
 use Rattle.promise.proofs.Slots.{no-slot}
-use Rattle.promise.proofs.Turning.{took-by, directory-by, puts}
+use Rattle.promise.proofs.Turning.{took-by, directory-by, turning}
 use Rattle.promise.proofs.Witnesses.{none-later}
 use Rattle.promise.proofs.Cards.{distinct, within}
 
@@ -221,9 +223,10 @@ unput-in v v' n sort o u q = subst (λ (y : Open). Unput v v' y.slot.file) (same
 take-turns : (h : Holds both_store both_table) → Turned both_store both_table h (Register 1) Done taken_store
 unfolding both-holds taken-holds
 take-turns h =
-    puts 12 true both_store.disk (shown_to 3 (sector_in 3)) both_store.slots taken_store.slots (counting 4 8) (counting 4 8) both_table h refl (λ e. e) (Register 1) taken_table take-turn refl taken-holds
+    turning 12 true both_store.disk (shown_to 3 (sector_in 3)) both_store.slots taken_store.slots (counting 4 8) (counting 4 8) both_table h refl (λ e. e) (Register 1) taken_table refl take-turn refl taken-holds
     (took-by both_store taken_store both_table both_table taken_table taken_table both-sized taken-sized h both-holds taken-holds (λ s i. inr i))
     (λ s i. inl i) head (λ s o n e. others s o n e)
+    (λ e i o. stays e (subst (λ (c : Catalog). In e (entries c)) (catalog-one both_store both_table both_table both-sized h both-holds) i))
     (directory-by both_store taken_store both_table both_table taken_table taken_table both-sized taken-sized h both-holds taken-holds
     (λ c d. (length (outside (page_sectors c) (page_sectors d)) ≡ changes both_table taken_table.tree) × DirectoryPut c (shown_to 2 blank) (shown_to 3 (sector_in 3)) d) (refl, (inr refl, (tt, (tt, tt)))))
   where
@@ -231,6 +234,10 @@ take-turns h =
     head zero o e f = let q = same_Some 1 0 e in absurd (omega (arith, q))
     head (suc zero) o e f = head-in 3 Anonymous taken_table.files (shown_to 3 (sector_in 3)) refl refl (omega arith) o f
     head (suc (suc s)) o e f = absurd (none-later 6 s o f)
+
+    stays : (e : Entry Key) → In e ((hall, 2) ∷ []) → Unput both_store taken_store e.1
+    stays e (inl q) = subst (λ (d : Entry Key). Unput both_store taken_store d.1) (sym q) (refl, λ x j. j)
+    stays e (inr i) = absurd i
 
     others : (s : ℕ) (o : Open) → closes (Register 1) ≢ Some s → (get_or both_store.slots s None ≡ Some o) ⊎ (get_or taken_store.slots s None ≡ Some o) → Unput both_store taken_store o.slot.file
     others zero o n (inl f) = unput-in both_store taken_store 2 Registered o (refl, λ x i. i) f
@@ -242,9 +249,9 @@ take-turns h =
 leave-turns : (h : Holds taken_store taken_table) → Turned taken_store taken_table h (Close 0) Done left_store
 unfolding taken-holds left-holds
 leave-turns h =
-    puts 12 true taken_store.disk (shown_to 3 (sector_in 3)) taken_store.slots left_store.slots (counting 4 8) (counting 4 8) taken_table h refl (λ e. e) (Close 0) left_table leave-turn refl left-holds
+    turning 12 true taken_store.disk (shown_to 3 (sector_in 3)) taken_store.slots left_store.slots (counting 4 8) (counting 4 8) taken_table h refl (λ e. e) (Close 0) left_table refl leave-turn refl left-holds
     (took-by taken_store left_store taken_table taken_table left_table left_table taken-sized taken-sized h taken-holds left-holds (λ s i. inr (took s i)))
-    (λ s i. inl i) head (λ s o n e. (refl, λ x i. i))
+    (λ s i. inl i) head (λ s o n e. (refl, λ x i. i)) (λ e i o. (refl, λ x j. j))
     (directory-by taken_store left_store taken_table taken_table left_table left_table taken-sized taken-sized h taken-holds left-holds
     (λ c d. (length (outside (page_sectors c) (page_sectors d)) ≡ changes taken_table left_table.tree) × DirectoryPut c (shown_to 3 (sector_in 3)) (shown_to 3 (sector_in 3)) d) (refl, (inl refl, (tt, (tt, tt)))))
   where

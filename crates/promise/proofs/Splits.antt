@@ -1,7 +1,8 @@
 -- Calls by which pages are split and joined, each as it is promised.
+use Rattle.promise.proofs.Holding.{catalog-one}
 use Rattle.std.proofs.Common.{◌≡◌, ℕ, zero, suc, ◌-◌, ◌^◌, ◌<◌, ◌≤◌, Bool, true, false, cond, ◌⊎◌, List, [], ◌∷◌, ◌++◌, map, length, get_or, take, Some, None, Ok, sym, refl, ap, ◌∙◌, subst, inl, inr, arith}
 use Rattle.std.specs.Prelude.{◌==◌, ◌≢◌, slice_index}
-use Rattle.std.proofs.lemmas.Bool.{cond_both}
+use Rattle.std.proofs.lemmas.Bool.{cond_both, ne_eqb}
 use Rattle.std.proofs.lemmas.List.{take_all}
 use Rattle.std.proofs.lemmas.Option.{none-some, same_Some}
 use Rattle.numbers.specs.Names.{Key}
@@ -25,7 +26,7 @@ use Rattle.promise.specs.Calls.{slot_in, seen, NamedAs, OpenAs, uses, Grown, clo
 use Rattle.promise.specs.Examples.{after, counting}
 use Rattle.promise.specs.Splits.{extent_at, file_sector, with_page, full_root, left_leaf, right_leaf, longer_leaf, root_over, joined_root, full_catalog, split_catalog, longer_catalog, joined_catalog, full_shown, split_shown, longer_shown, joined_shown, open_at, open_store, full_store, split_store, longer_store, joined_store, named_table, full_table, split_table, Splits}
 use Rattle.promise.specs.Ledger.{file_number}
-use Rattle.promise.proofs.Turning.{took-by, freed-by, directory-by, puts}
+use Rattle.promise.proofs.Turning.{took-by, freed-by, directory-by, turning}
 use Rattle.promise.proofs.Witnesses.{none-later}
 use Rattle.promise.proofs.Slots.{no-slot}
 use Rattle.promise.proofs.Ledgers.{number_in}
@@ -260,6 +261,35 @@ module _ (v v' : View) (may : (n : ℕ) → v.disk.may n ≡ v.disk.shown n ∷ 
       subst (λ (y : Open). Unput v v' y.slot.file) (same_Some x o q)
       (e, λ c i. subst (In c) (sym (may n)) (subst (λ (d : Contents). In c (d ∷ [])) e (subst (In c) (may' n) i)))
 
+-- FILES. None lies in a page's sector, so each shows what it showed
+page-apart : (n : ℕ) (p : Laid (suc n)) (shown : ℕ → Contents) (s : ℕ) → (s ≡ p.0 → ⊥) → with_page n p shown s ≡ shown s
+page-apart n p shown s a = rw (ne_eqb s p.0 a) refl
+
+full-file : (s : ℕ) → 2 ≤ s → full_shown s ≡ file_sector s
+full-file s l = page-apart 0 full_root file_sector s (λ e. omega (arith, l, e))
+
+leaves : (s : ℕ) → 2 ≤ s → s < 28 → with_page 0 left_leaf (with_page 0 right_leaf file_sector) s ≡ file_sector s
+leaves s l h = page-apart 0 left_leaf (with_page 0 right_leaf file_sector) s (λ e. omega (arith, h, e)) ∙ page-apart 0 right_leaf file_sector s (λ e. omega (arith, h, e))
+
+split-file : (s : ℕ) → 2 ≤ s → s < 28 → split_shown s ≡ file_sector s
+split-file s l h = page-apart 1 (root_over right_leaf) (with_page 0 left_leaf (with_page 0 right_leaf file_sector)) s (λ e. omega (arith, l, e)) ∙ leaves s l h
+
+longer-file : (s : ℕ) → 2 ≤ s → s < 28 → longer_shown s ≡ file_sector s
+longer-file s l h = page-apart 1 (root_over longer_leaf) (with_page 0 longer_leaf (with_page 0 left_leaf (with_page 0 right_leaf file_sector))) s (λ e. omega (arith, l, e)) ∙
+    (page-apart 0 longer_leaf (with_page 0 left_leaf (with_page 0 right_leaf file_sector)) s (λ e. omega (arith, h, e)) ∙ leaves s l h)
+
+joined-file : (s : ℕ) → 2 ≤ s → s < 28 → joined_shown s ≡ file_sector s
+joined-file s l h = page-apart 0 joined_root (with_page 0 left_leaf (with_page 0 right_leaf file_sector)) s (λ e. omega (arith, l, e)) ∙ leaves s l h
+
+-- so no named file's sector is put
+files-stay : (v v' : View) (c : Catalog) → ((n : ℕ) → v.disk.may n ≡ v.disk.shown n ∷ []) → ((n : ℕ) → v'.disk.may n ≡ v'.disk.shown n ∷ []) →
+    ((s : ℕ) → 2 ≤ s → s < 28 → v.disk.shown s ≡ file_sector s) → ((s : ℕ) → 2 ≤ s → s < 28 → v'.disk.shown s ≡ file_sector s) →
+    all_within 2 28 (map file_number (entries c)) ≡ true → (e : Entry Key) → In e (entries c) → Unput v v' e.1
+files-stay v v' c may may' f f' b e i =
+    let r = within 2 28 (map file_number (entries c)) b e.1 (number_in (entries c) e i) in
+    let q = f' e.1 r.0 r.1 ∙ sym (f e.1 r.0 r.1) in
+    (q, λ x j. subst (In x) (sym (may e.1)) (subst (λ (d : Contents). In x (d ∷ [])) q (subst (In x) (may' e.1) j)))
+
 leaf-put : (old : List ℕ) (shown shown' : ℕ → Contents) (xs : List (Item Key (Unit {0}))) → Below (PagesPut old shown shown' zero) xs
 leaf-put old shown shown' [] = tt
 leaf-put old shown shown' (item e d ∷ xs) = (tt, leaf-put old shown shown' xs)
@@ -270,11 +300,13 @@ Counted t t' shown shown' c d = (length (outside (page_sectors c) (page_sectors 
 split-turns : (h : Holds full_store full_table) → Turned full_store full_table h (Register 0) Done split_store
 unfolding holding full-holds split-holds
 split-turns h =
-    puts 40 true full_store.disk split_shown full_store.slots split_store.slots full_store.free split_store.free full_table h refl (λ e. e) (Register 0) split_table split-turn refl split-holds
+    turning 40 true full_store.disk split_shown full_store.slots split_store.slots full_store.free split_store.free full_table h refl (λ e. e) (Register 0) split_table refl split-turn refl split-holds
     (took-by full_store split_store full_table full_table split_table split_table full-sized split-sized h full-holds split-holds
     (either-in full_store.free (uses full_table full_catalog (extent_at 26 ∷ extent_at 27 ∷ [])) (uses split_table split_catalog (extent_at 26 ∷ extent_at 27 ∷ [])) refl))
     (freed-by full_store split_store full_table full_table split_table split_table full-sized split-sized h full-holds split-holds (either-in full_store.free (1 ∷ []) split_store.free refl))
     head others
+    (λ e i o. files-stay full_store split_store full_catalog (λ n. refl) (λ n. refl) (λ n l u. full-file n l) split-file refl e
+    (subst (λ (c : Catalog). In e (entries c)) (catalog-one full_store full_table full_table full-sized h full-holds) i))
     (directory-by full_store split_store full_table full_table split_table split_table full-sized split-sized h full-holds split-holds (Counted full_table split_table full_shown split_shown)
     (refl, (inr refl, ((refl, (tt, leaf-put (1 ∷ []) full_shown split_shown (items 0 2 12))), ((refl, (tt, leaf-put (1 ∷ []) full_shown split_shown (items 13 15 12))), tt)))))
   where
@@ -297,11 +329,13 @@ split-turns h =
 longer-turns : (h : Holds split_store split_table) → Turned split_store split_table h (Register 1) Done longer_store
 unfolding holding split-holds longer-holds
 longer-turns h =
-    puts 40 true split_store.disk longer_shown split_store.slots longer_store.slots split_store.free longer_store.free split_table h refl (λ e. e) (Register 1) longer_table longer-turn refl longer-holds
+    turning 40 true split_store.disk longer_shown split_store.slots longer_store.slots split_store.free longer_store.free split_table h refl (λ e. e) (Register 1) longer_table refl longer-turn refl longer-holds
     (took-by split_store longer_store split_table split_table longer_table longer_table split-sized longer-sized h split-holds longer-holds
     (either-in split_store.free (uses split_table split_catalog (extent_at 26 ∷ extent_at 27 ∷ [])) (uses longer_table longer_catalog (extent_at 26 ∷ extent_at 27 ∷ [])) refl))
     (freed-by split_store longer_store split_table split_table longer_table longer_table split-sized longer-sized h split-holds longer-holds (either-in split_store.free (1 ∷ 28 ∷ 29 ∷ []) longer_store.free refl))
     head others
+    (λ e i o. files-stay split_store longer_store split_catalog (λ n. refl) (λ n. refl) split-file longer-file refl e
+    (subst (λ (c : Catalog). In e (entries c)) (catalog-one split_store split_table split_table split-sized h split-holds) i))
     (directory-by split_store longer_store split_table split_table longer_table longer_table split-sized longer-sized h split-holds longer-holds (Counted split_table longer_table split_shown longer_shown)
     (refl, (inr refl, ((refl, (tt, leaf-put (1 ∷ 28 ∷ 29 ∷ []) split_shown longer_shown (items 0 2 12))), ((refl, (tt, leaf-put (1 ∷ 28 ∷ 29 ∷ []) split_shown longer_shown (items 13 15 13))), tt)))))
   where
@@ -324,11 +358,13 @@ longer-turns h =
 joined-turns : (h : Holds split_store split_table) → Turned split_store split_table h (Delete (letter 0)) Done joined_store
 unfolding holding split-holds joined-holds
 joined-turns h =
-    puts 40 true split_store.disk joined_shown split_store.slots joined_store.slots split_store.free joined_store.free split_table h refl (λ e. e) (Delete (letter 0)) joined_table joined-turn refl joined-holds
+    turning 40 true split_store.disk joined_shown split_store.slots joined_store.slots split_store.free joined_store.free split_table h refl (λ e. e) (Delete (letter 0)) joined_table refl joined-turn refl joined-holds
     (took-by split_store joined_store split_table split_table joined_table joined_table split-sized joined-sized h split-holds joined-holds
     (either-in split_store.free (uses split_table split_catalog (extent_at 26 ∷ extent_at 27 ∷ [])) (uses joined_table joined_catalog (extent_at 26 ∷ extent_at 27 ∷ [])) refl))
     (freed-by split_store joined_store split_table split_table joined_table joined_table split-sized joined-sized h split-holds joined-holds (either-in split_store.free (1 ∷ 28 ∷ 29 ∷ []) joined_store.free refl))
     (λ s o e. absurd (none-some s e)) others
+    (λ e i o. files-stay split_store joined_store split_catalog (λ n. refl) (λ n. refl) split-file joined-file refl e
+    (subst (λ (c : Catalog). In e (entries c)) (catalog-one split_store split_table split_table split-sized h split-holds) i))
     (directory-by split_store joined_store split_table split_table joined_table joined_table split-sized joined-sized h split-holds joined-holds (Counted split_table joined_table split_shown joined_shown)
     (refl, (inr refl, (tt, leaf-put (1 ∷ 28 ∷ 29 ∷ []) split_shown joined_shown (items 1 3 24)))))
   where

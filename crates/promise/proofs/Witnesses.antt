@@ -4,6 +4,7 @@ use Rattle.std.specs.Prelude.{cond, ◌==◌, ◌≢◌, codes}
 use Rattle.std.proofs.lemmas.Option.{none-some, same_Some}
 use Rattle.numbers.specs.Names.{Key}
 use Rattle.layout.specs.Words.{blank}
+use Rattle.tree.specs.Tree.{Entry}
 use Rattle.disk.specs.Meaning.{Contents, In}
 use Rattle.catalog.specs.Catalogs.{Catalog, entries, page_sectors, outside}
 use Rattle.catalog.specs.Laws.{Sized}
@@ -12,13 +13,13 @@ use Rattle.promise.specs.declared.fault.FileFault.TheVariants.{NoRoom}
 use Rattle.promise.specs.Faults.{is_three, by_disk}
 use Rattle.promise.specs.Table.{File, Sort, Anonymous, Registered, Slot, Table, Call, New, Old, Delete, Set, Read, Write, Register, Close, Names, Answer, Done, Slotted, Riding, HasRead, Wrote, Named, No, NoRead, NoNames, slot_at, gives, moved, filled, changes, plain, waits, formatted, Spare, MayTake, Turn, said, gone, gone_read, gone_names, Proper}
 use Rattle.promise.specs.Promise.{Open, View}
-use Rattle.promise.specs.Calls.{seen, NamedAs, OpenAs, file_at, Head, DirectoryPut, Holds, Turned, says_three}
+use Rattle.promise.specs.Calls.{seen, NamedAs, OpenAs, file_at, Head, DirectoryPut, Holds, Turned, says_three, Unput}
 use Rattle.promise.specs.Examples.{at, at_end, hall, row, no_row, lost}
 use Rattle.promise.specs.Witnesses.{sector_count, disk_of, contents, in_second, hall_sector, first_bytes, hall_entry, none_open, hall_open, free_after, formatted_store, new_store, written_store, registered_store, closed_store, deleted_store, lost_store, Does, Witnesses, Refused, waiting, off}
 use Rattle.promise.proofs.Slots.{no-slot}
 use Rattle.promise.proofs.StayProper.{turns, formatted-proper}
 use Rattle.promise.proofs.Holding.{catalog-one, extents-one, holds-one}
-use Rattle.promise.proofs.Turning.{false-true, took-by, directory-by, quiet, puts}
+use Rattle.promise.proofs.Turning.{false-true, took-by, directory-by, quiet, turning}
 use Rattle.promise.proofs.Cards.{root-empty, root-hall, hall-long, hall-laid, hall-bytes, no-bytes, contents-long}
 use Rattle.promise.proofs.Restarts.{format-done, format-lost, format-small, start-done, start-forgets, start-lost, start-small}
 use Rattle.promise.proofs.Stores.{formatted-holds, new-holds, written-holds, registered-holds, closed-holds, deleted-holds}
@@ -130,6 +131,8 @@ module _ (calm : Bool) (f : ℕ → File) where
       quiet (disk_of calm (contents [] blank)) none_open (hall_open Anonymous 0 []) (2 ∷ free_after) free_after t h (New hall) (Slotted 0) t' u refl k refl refl (λ e. cc)
       (λ n s e g. subst (λ (z : ℕ). In (file_at (new_store calm) z) (2 ∷ free_after)) (slotted 0 s g) (inl refl))
       (took-by (formatted_store calm) (new_store calm) t formatted_table t' t' z₀ z₀ h (formatted-holds calm) k took) (λ s i. inr i)
+      (directory-by (formatted_store calm) (new_store calm) (t) (formatted_table) (t') (t') z₀ z₀ h (formatted-holds calm) (k)
+      (λ c d. (length (outside (page_sectors c) (page_sectors d)) ≡ changes (t) (t').tree) × DirectoryPut c (contents [] blank) (contents [] blank) d) (refl, (inl refl, (tt, tt))))
     where
       took : (s : ℕ) → In s (1 ∷ 2 ∷ []) → In s (2 ∷ free_after) ⊎ In s (1 ∷ [])
       took s (inl e) = inr (inl e)
@@ -138,10 +141,14 @@ module _ (calm : Bool) (f : ℕ → File) where
 
   -- a New that would leave too few sectors
   refused-turns : (h : Holds (new_store calm) (over new_table f)) → Turned (new_store calm) (over new_table f) h (New []) (No NoRoom) (new_store calm)
+  unfolding new-holds
   refused-turns h =
       let t = over new_table f in
+      let k₀ = new-holds calm new_table.files refl new-proper in
       quiet (disk_of calm (contents [] blank)) (hall_open Anonymous 0 []) (hall_open Anonymous 0 []) free_after free_after t h (New []) (No NoRoom) t (said (New []) 3 spare) refl h refl refl (λ e. cc)
       (λ n s e g. absurd (no-slotted s g)) (took-by (new_store calm) (new_store calm) t t t t z₀ z₀ h h h (λ s i. inr i)) (λ s i. i)
+      (directory-by (new_store calm) (new_store calm) (t) (new_table) (t) (new_table) z₀ z₀ h (k₀) (k₀)
+      (λ c d. (length (outside (page_sectors c) (page_sectors d)) ≡ changes (t) (t).tree) × DirectoryPut c (contents [] blank) (contents [] blank) d) (refl, (inl refl, (tt, tt))))
     where
       no-slotted : (s : ℕ) → No NoRoom ≡ Slotted s → ⊥
       no-slotted s e = cc
@@ -170,6 +177,8 @@ module _ (calm : Bool) (f : ℕ → File) where
       let k = written-holds calm t'.files refl (turns t t' c (Wrote 5 (at 0 5)) h.proper u) in
       quiet (disk_of calm (contents [] blank)) (hall_open Anonymous 0 []) (hall_open Anonymous 5 first_bytes) free_after free_after t h c (Wrote 5 (at 0 5)) t' u refl k refl refl (λ e. cc)
       (λ n s e g. absurd (not-slotted s g)) (took-by (new_store calm) (written_store calm) t new_table t' t' z₀ z₀ h k₀ k (λ s i. inr i)) (λ s i. i)
+      (directory-by (new_store calm) (written_store calm) (t) (new_table) (t') (t') z₀ z₀ h (k₀) (k)
+      (λ c d. (length (outside (page_sectors c) (page_sectors d)) ≡ changes (t) (t').tree) × DirectoryPut c (contents [] blank) (contents [] blank) d) (refl, (inl refl, (tt, tt))))
     where
       not-slotted : (s : ℕ) → Wrote 5 (at 0 5) ≡ Slotted s → ⊥
       not-slotted s e = cc
@@ -184,10 +193,11 @@ module _ (calm : Bool) (f : ℕ → File) where
       let b : (f 2).bytes ≡ first_bytes = (open-as (written_store calm) t written_table z₀ h k₀).2 ∙ sym (hall-bytes (seen (written_store calm)) refl) in
       let u : Turn t (Register 0) Done t' = said (Register 0) 0 refl in
       let k = registered-holds calm t'.files (ap length b) b (turns t t' (Register 0) Done h.proper u) in
-      puts sector_count calm (disk_of calm (contents [] blank)) (contents hall_entry (hall_sector 5 first_bytes)) (hall_open Anonymous 5 first_bytes) (hall_open Registered 5 first_bytes) free_after free_after t h refl (λ e. e) (Register 0) t' u refl k
+      turning sector_count calm (disk_of calm (contents [] blank)) (contents hall_entry (hall_sector 5 first_bytes)) (hall_open Anonymous 5 first_bytes) (hall_open Registered 5 first_bytes) free_after free_after t h refl (λ e. e) (Register 0) t' refl u refl k
       (took-by (written_store calm) (registered_store calm) t written_table t' t' z₀ z₁ h k₀ k (λ s i. inr i))
       (λ s i. inl i) (hall-head Anonymous t'.files b)
       (λ s o n e. absurd (elim e [ inl a ↦ first-only _ s o n a | inr a ↦ first-only _ s o n a ]))
+      (λ e i o. absurd (subst (λ (c : Catalog). In e (entries c)) (catalog-one (written_store calm) t written_table z₀ h k₀) i))
       (directory-by (written_store calm) (registered_store calm) t written_table t' t' z₀ z₁ h k₀ k
       (λ c d. (length (outside (page_sectors c) (page_sectors d)) ≡ changes t t'.tree) × DirectoryPut c (contents [] blank) (contents hall_entry (hall_sector 5 first_bytes)) d) (refl, (inr refl, (tt, (tt, tt)))))
 
@@ -202,10 +212,10 @@ module _ (calm : Bool) (f : ℕ → File) where
       let u : Turn t (Close 0) Done t' = said (Close 0) 0 refl in
       let k = closed-holds calm t'.files (ap length b) b (turns t t' (Close 0) Done h.proper u) in
       let shown = contents hall_entry (hall_sector 5 first_bytes) in
-      puts sector_count calm (disk_of calm shown) shown (hall_open Registered 5 first_bytes) none_open free_after free_after t h refl (λ e. e) (Close 0) t' u refl k
+      turning sector_count calm (disk_of calm shown) shown (hall_open Registered 5 first_bytes) none_open free_after free_after t h refl (λ e. e) (Close 0) t' refl u refl k
       (took-by (registered_store calm) (closed_store calm) t registered_table t' t' z₁ z₁ h k₀ k (λ s i. inr i))
       (λ s i. inl i) (hall-head Registered t'.files b)
-      (λ s o n e. (refl, λ x i. i))
+      (λ s o n e. (refl, λ x i. i)) (λ e i o. (refl, λ x j. j))
       (directory-by (registered_store calm) (closed_store calm) t registered_table t' t' z₁ z₁ h k₀ k
       (λ c d. (length (outside (page_sectors c) (page_sectors d)) ≡ changes t t'.tree) × DirectoryPut c shown shown d) (refl, (inl refl, (tt, (tt, tt)))))
 
@@ -222,6 +232,8 @@ module _ (calm : Bool) (f : ℕ → File) where
       let k = registered-holds calm t'.files n.0 (n.1 refl ∙ sym (hall-bytes shown refl)) (turns t t' (Old hall) (Slotted 0) h.proper u) in
       quiet (disk_of calm shown) none_open (hall_open Registered 5 first_bytes) free_after free_after t h (Old hall) (Slotted 0) t' u refl k refl refl (λ e. cc)
       (λ n s e g. absurd (not-new n e)) (took-by (closed_store calm) (registered_store calm) t closed_table t' t' z₁ z₁ h k₀ k (λ s i. inr i)) (λ s i. i)
+      (directory-by (closed_store calm) (registered_store calm) (t) (closed_table) (t') (t') z₁ z₁ h (k₀) (k)
+      (λ c d. (length (outside (page_sectors c) (page_sectors d)) ≡ changes (t) (t').tree) × DirectoryPut c (shown) (shown) d) (refl, (inl refl, (tt, (tt, tt)))))
     where
       not-new : (n : Key) → Old hall ≡ New n → ⊥
       not-new n e = cc
@@ -237,16 +249,21 @@ module _ (calm : Bool) (f : ℕ → File) where
       let shown' = contents [] (hall_sector 5 first_bytes) in
       let u : Turn t (Delete hall) Done t' = said (Delete hall) 0 refl in
       let k = deleted-holds calm t'.files (turns t t' (Delete hall) Done h.proper u) in
-      puts sector_count calm (disk_of calm shown) shown' none_open none_open free_after free_after t h refl (λ e. e) (Delete hall) t' u refl k
+      turning sector_count calm (disk_of calm shown) shown' none_open none_open free_after free_after t h refl (λ e. e) (Delete hall) t' refl u refl k
       (took-by (closed_store calm) (deleted_store calm) t closed_table t' t' z₁ (sized-empty (hall_sector 5 first_bytes) hall-long) h k₀ k (λ s i. inr (first s i)))
       (λ s i. inl i) (λ s o e. absurd (none-some s e))
       (λ s o n e. absurd (elim e [ inl a ↦ none-later 8 s o a | inr a ↦ none-later 8 s o a ]))
+      (λ e i o. stays e (subst (λ (c : Catalog). In e (entries c)) (catalog-one (closed_store calm) t closed_table z₁ h k₀) i))
       (directory-by (closed_store calm) (deleted_store calm) t closed_table t' t' z₁ (sized-empty (hall_sector 5 first_bytes) hall-long) h k₀ k
       (λ c d. (length (outside (page_sectors c) (page_sectors d)) ≡ changes t t'.tree) × DirectoryPut c shown shown' d) (refl, (inr refl, (tt, tt))))
     where
       first : (s : ℕ) → In s (1 ∷ []) → In s (1 ∷ 2 ∷ [])
       first s (inl e) = inl e
       first s (inr i) = absurd i
+
+      stays : (e : Entry Key) → In e ((hall, 2) ∷ []) → Unput (closed_store calm) (deleted_store calm) e.1
+      stays e (inl q) = subst (λ (d : Entry Key). Unput (closed_store calm) (deleted_store calm) d.1) (sym q) (refl, λ x j. j)
+      stays e (inr i) = absurd i
 
 -- SET, READ and LIST change nothing
 module _ (calm : Bool) (f : ℕ → File) (h : Holds (registered_store calm) (over registered_table f)) where
@@ -261,11 +278,15 @@ module _ (calm : Bool) (f : ℕ → File) (h : Holds (registered_store calm) (ov
 
   still-turns : (c : Call) (a : Answer) → plain (over registered_table f) 0 c ≡ (a, over registered_table f) → MayTake (over registered_table f) c 0 → says_three a ≡ false → (a ≡ Done → ⊥) → ((s : ℕ) → a ≡ Slotted s → ⊥) →
       Turned (registered_store calm) (over registered_table f) h c a (registered_store calm)
+  unfolding registered-holds
   still-turns c a e m n d w =
       let t = over registered_table f in
       let v = registered_store calm in
+      let k₀ = registered-holds calm registered_table.files refl refl registered-proper in
       quiet v.disk v.slots v.slots v.free v.free t h c a t (subst (λ (r : Answer × Table). Turn t c r.0 r.1) e (said c 0 m)) refl h refl n d
       (λ k s x g. absurd (w s g)) (took-by v v t t t t z₁ z₁ h h h (λ s i. inr i)) (λ s i. i)
+      (directory-by (v) (v) (t) (registered_table) (t) (registered_table) z₁ z₁ h (k₀) (k₀)
+      (λ c d. (length (outside (page_sectors c) (page_sectors d)) ≡ changes (t) (t).tree) × DirectoryPut c (v.disk.shown) (v.disk.shown) d) (refl, (inl refl, (tt, (tt, tt)))))
 
   set-turns : Turned (registered_store calm) (over registered_table f) h (Set 0 9) (Riding (at 0 5)) (registered_store calm)
   set-turns = still-turns (Set 0 9) (Riding (at 0 5)) (rw hall-bytes-now refl) refl refl (λ e. cc) (λ s e. cc)
@@ -292,9 +313,11 @@ module _ (f : ℕ → File) (h : Holds (registered_store false) (over registered
     unput = λ q e b. absurd (r q e);
     settled = λ e. absurd (d e);
     head = λ s o e g q. absurd (d q);
+    still = λ e. (λ k i. refl, λ k x i j. j);
     others = λ s o e i. (refl, λ x j. j);
-    moved = λ e. absurd (d e);
-    pages = λ e. absurd (d e);
+    unopened = λ e i o. (refl, λ x j. j);
+    moved = λ k. false-true k.live;
+    pages = λ k. false-true k.live;
   }
 
   read-lost : Turned (registered_store false) (over registered_table f) h (Read (at 0 2) (replicate 10 0)) (NoRead lost 1 (at 0 3) (codes "r" ++ replicate 9 0)) (waiting (off (registered_store false).disk))
@@ -311,6 +334,7 @@ module _ (f : ℕ → File) (h : Holds (registered_store false) (over registered
 
 -- A REGISTER whose Settle is gone
 register-lost : (f : ℕ → File) (h : Holds (written_store false) (over written_table f)) → Turned (written_store false) (over written_table f) h (Register 0) (No (by_disk lost)) lost_store
+unfolding written-holds
 register-lost f h = record {
   table = waits (over written_table f);
   turn = gone (Register 0) lost refl refl refl;
@@ -323,9 +347,12 @@ register-lost f h = record {
   unput = λ r e b. absurd (three r e b);
   settled = λ e. absurd (no-done e);
   head = λ s o e g d. absurd (no-done d);
+  still = λ e. false-true (sym e);
   others = λ s o n e. absurd (elim e [ inl a ↦ first-only _ s o n a | inr a ↦ first-only _ s o n a ]);
-  moved = λ e. absurd (no-done e);
-  pages = λ e. absurd (no-done e);
+  unopened = λ e i o.
+      absurd (subst (λ (c : Catalog). In e (entries c)) (catalog-one (written_store false) (over written_table f) written_table z₀ h (written-holds false written_table.files refl written-proper)) i);
+  moved = λ k. false-true k.live;
+  pages = λ k. false-true k.live;
 }
   where
     no-slotted : (s : ℕ) → No (by_disk lost) ≡ Slotted s → ⊥

@@ -7,7 +7,6 @@ pub mod Turning
 pub mod Calls
 pub mod Owed
 pub mod Divided
-pub mod Held
 pub mod Kept
 pub mod Cards
 pub mod Fresh

@@ -4,7 +4,6 @@ pub mod Wider
 pub mod Harmless
 pub mod Turning
 pub mod Owed
-pub mod Held
 pub mod Kept
 pub mod Cards
 pub mod Keeping

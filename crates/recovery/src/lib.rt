@@ -9,7 +9,6 @@ ghost use Rattle.recovery.specs.Turning.{PutTurns, StoppedRecoverable, TurningRe
 ghost use Rattle.recovery.specs.Turning.{WipingRecoverable, FormatRecoverable, FormatSteady, RestartRecovers, StartedSteady};
 ghost use Rattle.recovery.specs.Owed.{DeleteTurns, RegisterTurns, CloseTurns, SaneGives, RegisterNamed};
 ghost use Rattle.recovery.specs.Kept.{RunKept, RunSize, RunPromise, LivesHolds};
-ghost use Rattle.recovery.specs.Held.{LaidUsed, FreeOutside, OpenOwn};
 ghost use Rattle.recovery.specs.Keeping.{Keeps};
 ghost use Rattle.recovery.specs.Cards.{Cards};
 
@@ -89,13 +88,6 @@ pub fn run_stands()
 /// A store of any origin holds a table whenever it is ready, so that its calls promise something.
 pub fn lives_stand()
     ensures { LivesHolds }
-{}
-
-/// What a store's disk lays is in use, and so no free sector is the catalog's; what it lays of an open file is that file's own.
-pub fn held_stands()
-    ensures used { LaidUsed }
-    ensures free { FreeOutside }
-    ensures own { OpenOwn }
 {}
 
 /// What is left for each call so that it keeps what a store keeps.
