@@ -181,7 +181,7 @@ module _ (Kept : Ledger → View → Type 0) where
     -- a no to question 1 comes before any disk call
     pub small : good_size v.disk.size ≡ false → v'.disk ≡ v.disk
     pub answered : good_size v.disk.size ≡ true → Answered v.disk (v.disk.live ≡ true) a v'.disk
-    -- it does not restart a disk
+    -- a disk that is not live stays so
     pub dead : v.disk.live ≡ false → v'.disk.live ≡ false
     pub size : v'.disk.size ≡ v.disk.size
     pub begins : a ≡ Done → Kept blank v'

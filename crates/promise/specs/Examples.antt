@@ -190,7 +190,11 @@ pub record FirstNo : Type 0 where
   pub registered : answer scripted (Register 0) ≡ No BadSlot
   pub anonymous : answer (filled 64) (Close 0) ≡ No BadSlot
   pub five_eight : answer unnamed (Register 2) ≡ No BadSlot
-  -- 6 before 7
+  -- 5 before 9 and 10
+  pub five_nine : (b : List ℕ) → length b ≡ 3210913 → answer brim (Write (at 1 0) b) ≡ No BadSlot
+  pub five_ten : (b : List ℕ) → length b ≡ 3210912 → answer brim (Write (at 1 0) b) ≡ No BadSlot
+  -- 6 before 7 and 10
+  pub six_ten : answer (brimming [] 0) (Delete (codes "z")) ≡ No Absent
   pub six_seven : answer (filled 64) (Old hall) ≡ No Absent
   pub six : answer scripted (Delete (letter_name 0)) ≡ No Absent
   -- 7 before 10

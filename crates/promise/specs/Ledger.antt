@@ -174,8 +174,8 @@ pub record Covers (w : Written) : Type 0 where
   pub within : w.closed ≤ length w.bytes
   pub own : (p : ℕ) → p < w.closed → In (slice_index w.bytes p) (possible_at w p)
 
--- what the table's answers grant of an accepted call: New is answered an unused slot; Old an unused one, for a name that is there and a
--- file that no slot holds, or the slot that holds the file; Register takes an anonymous one
+-- what the table's answers grant of the slot of an accepted call: New is answered an unused one; where Old is, the name is there and no
+-- slot holds its file; Close has a used one, and Register an anonymous one
 abbrev pub Legal : Ledger → ℕ → Call → Type 0
 Legal l s (New n) = slice_index_or l.slots s None ≡ None
 Legal l s (Old n) =
@@ -198,5 +198,5 @@ pub record Sane (l : Ledger) : Type 0 where
   pub apart : (s : ℕ) (x : Slot) → slice_index_or l.slots s None ≡ Some x → x.sort ≡ Anonymous → (e : Entry Key) → In e l.names → e.1 ≢ x.file
   pub once : (s h : ℕ) (x y : Slot) → slice_index_or l.slots s None ≡ Some x → slice_index_or l.slots h None ≡ Some y → x.file ≡ y.file → s ≡ h
   pub covers : (n : ℕ) → Covers (numbered l n)
-  -- a call that was broken off could have been accepted
+  -- a Register or Close that was broken off has its slot, and Register's is anonymous
   pub pending : (c : Call) → l.broken ≡ Some c → Legal l 0 c
