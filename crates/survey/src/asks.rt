@@ -27,7 +27,7 @@ fn is_above_last(name: &Name, last: Option<Name>) -> bool
 
 impl Findings {
     /// Nothing but that the first sector asked was met.
-    pub fn new(size: u16, leaf_level: u32, first: Sector) -> Findings
+    pub(crate) fn new(size: u16, leaf_level: u32, first: Sector) -> Findings
         requires few { size ≤ most_sectors }
         requires inside { first.0 < size }
         ensures size { result.size ≡ size }
@@ -46,7 +46,7 @@ impl Findings {
     }
 
     /// Asks an address that is due whether it leads to a sector, and that sector whether it is met for the first time.
-    pub fn follow(&mut self, holder: Sector, address: Address) -> Result<Sector, LayoutFault>
+    pub(crate) fn follow(&mut self, holder: Sector, address: Address) -> Result<Sector, LayoutFault>
         ensures told { (rows : List FileRow) → Tells (record { found = self.old; rows = rows }) (address_asks true holder.0 address.0) (told_layout result) (record { found = self.new; rows = rows }) }
         ensures led { IfOk result (λ n. Led true address.0 self.new (Some n)) }
         ensures more { OnOk result ((self.new.names ≡ self.old.names) × (met_count self.new.map.met ≡ met_count self.old.map.met + 1)) }
@@ -61,7 +61,7 @@ impl Findings {
     }
 
     /// Asks an address whether it leads to a sector where one is due, and is 0 elsewhere.
-    pub fn link(
+    pub(crate) fn link(
         &mut self,
         holder: Sector,
         address: Address,
@@ -81,7 +81,11 @@ impl Findings {
     }
 
     /// Asks whether the field holds a good name that is above the last one. It is the last one then.
-    pub fn rise(&mut self, holder: Sector, field: [u8; NAME_SIZE]) -> Result<Name, LayoutFault>
+    pub(crate) fn rise(
+        &mut self,
+        holder: Sector,
+        field: [u8; NAME_SIZE],
+    ) -> Result<Name, LayoutFault>
         ensures told { (rows : List FileRow) → Tells (record { found = self.old; rows = rows }) (λ w. rise_asks holder.0 field) (told_layout result) (record { found = self.new; rows = rows }) }
         ensures name { IfOk result (λ n. (n.bytes ≡ field) × (is_name_field field ≡ true)) }
     {
@@ -96,7 +100,7 @@ impl Findings {
     }
 
     /// Lists a file that passed its questions, as far as there is a row for it.
-    pub fn list(&mut self, rows: &mut [FileRow], row: FileRow)
+    pub(crate) fn list(&mut self, rows: &mut [FileRow], row: FileRow)
         requires room { self.old.names < met_count self.old.map.met }
         requires name { is_name_field row.name.bytes ≡ true }
         requires fits { row.length.0 ≤ longest }
