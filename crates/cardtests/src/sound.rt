@@ -74,6 +74,9 @@ fn a_root_alone(rt: HostRuntime) -> Result<(), Fail> {
     )
 }
 
+/// Where the format leaves it free what a byte holds, and the odd card holds something.
+static ODD_AT: [usize; 8] = [0, 1168, 2092, 68400, 68612, 69636, 69994, 71680];
+
 #[test]
 fn extension_tables(rt: HostRuntime) -> Result<(), Fail> {
     let counts = Counts {
@@ -84,6 +87,9 @@ fn extension_tables(rt: HostRuntime) -> Result<(), Fail> {
     };
     let rows = [row(b"Nave.IR", 2, 66_000)?, row(b"Wing.IR", 68, 10)?];
     let mut image = image_of(rt.alloc(), Example::Odd)?;
+    for at in ODD_AT {
+        assert_ne!(rt; image.get(at).copied(), Some(0), "byte {at}");
+    }
     check(&rt, &mut image, &mut [FileRow::default(); 2], counts, &rows)?;
     let counts = Counts {
         names: 1,

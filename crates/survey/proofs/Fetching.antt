@@ -96,7 +96,7 @@ module _ {D : Type 0} {meaning : D → Meaning} {does : D → Request → Answer
   -- refused by its size
   pub fetch-size : {d : D} {first : ℕ} {old : List ℕ} {e : LayoutFault} {size : ℕ} → size ≡ (meaning d).size → (good_size size ≡ false) × (e ≡ BadSize) → Fetches meaning does d first old (Err (Layout e)) d old
   fetch-size {d} z p =
-      record { reads = none; read = read-same (meaning d); answer = record { is_found = file-bad-size _ _ _ (ap good_size (sym z) ∙ p.0) ∙ ap Err (sym p.1); untouched = refl } }
+      record { reads = none; read = read-same (meaning d); stays = λ l. l; answer = record { is_found = file-bad-size _ _ _ (ap good_size (sym z) ∙ p.0) ∙ ap Err (sym p.1); untouched = refl } }
 
   module _ (d d2 : D) (size first : ℕ) (old : List ℕ) (good : good_size size ≡ true) (z : size ≡ (meaning d).size) (x x2 : Memory) (n : Stands (of (meaning d)) [] x (begin (meaning d).size (meaning d).shown first)) where
     agreed : {r : Result (Unit {0}) VolumeFault} → Surveyed meaning does d x (λ w. ask_file w.size w.shown first) r d2 x2 → Agrees (of (meaning d)) [] r x2 (ask_file (meaning d).size (meaning d).shown first (begin (meaning d).size (meaning d).shown first))
@@ -105,8 +105,8 @@ module _ {D : Type 0} {meaning : D → Meaning} {does : D → Request → Answer
     -- a question is answered with no, or the disk does not answer
     pub fetch-stopped : (v : VolumeFault) → Surveyed meaning does d x (λ w. ask_file w.size w.shown first) (Err v) d2 x2 → Fetches meaning does d first old (Err v) d2 old
     fetch-stopped (Layout e) p =
-        record { reads = p.reads; read = p.read; answer = record { is_found = file-asked (meaning d).size (meaning d).shown first (Err e) (good-at (meaning d) size z good) (sym (agreed p)); untouched = refl } }
-    fetch-stopped (Disk f) p = record { reads = p.reads; read = p.read; answer = inl (fails p.leaves (agreed p), inl refl) }
+        record { reads = p.reads; read = p.read; stays = p.leaves; answer = record { is_found = file-asked (meaning d).size (meaning d).shown first (Err e) (good-at (meaning d) size z good) (sym (agreed p)); untouched = refl } }
+    fetch-stopped (Disk f) p = record { reads = p.reads; read = p.read; stays = tt; answer = inl (fails (good-at (meaning d) size z good) p.leaves (agreed p), inl refl) }
 
     -- all are answered with yes, and the bytes are read
     module _ (d3 : D) (h : Header) (new : List ℕ) (p : Surveyed meaning does d x (λ w. ask_file w.size w.shown first) yes d2 x2) (o : HeaderOf ((meaning d).shown first) h) (l : first < (meaning d).size) where
@@ -121,6 +121,7 @@ module _ {D : Type 0} {meaning : D → Meaning} {does : D → Request → Answer
           record {
             reads = reads-then p.reads q.reads;
             read = read-then p.read q.read;
+            stays = λ v. q.leaves (p.leaves v);
             answer = record {
               extent = extent (meaning d).size (meaning d).shown first;
               is_found = found-here;
@@ -136,7 +137,8 @@ module _ {D : Type 0} {meaning : D → Meaning} {does : D → Request → Answer
           record {
             reads = reads-then p.reads q.reads;
             read = read-then p.read q.read;
-            answer = inl (fails (leaves-then meaning does d3 (Err (Disk f)) p.reads p.read p.leaves q.leaves) r.0, inr (extent (meaning d).size (meaning d).shown first, found-here, r.1));
+            stays = tt;
+            answer = inl (fails (good-at (meaning d) size z good) (leaves-then meaning does d3 (Err (Disk f)) p.reads p.read p.leaves q.leaves) r.0, inr (extent (meaning d).size (meaning d).shown first, found-here, r.1));
           }
 
   -- the first sector is refused, or there is none
@@ -157,6 +159,7 @@ module _ {D : Type 0} {meaning : D → Meaning} {does : D → Request → Answer
           record {
             reads = more none h.0;
             read = subst (ReadOnly (meaning d)) (sym r.same) (read-same (meaning d));
-            answer = inr (record { beyond = r.beyond; asked = h.0; outside = e; untouched = refl });
+            stays = tt;
+            answer = inr (record { good = good-at (meaning d) size z good; beyond = r.beyond; asked = h.0; outside = e; untouched = refl });
           }
       go Gone e r = head-inside (Disk f) p r.inside

@@ -119,9 +119,9 @@ passed w t x (Ok s) h = (s, refl, h)
 passed w t x (Err e) h = absurd h
 
 module _ {D : Type 0} {meaning : D → Meaning} {does : D → Request → Answer → D → Type 0} where
-  pub fails : {d d' : D} {f : DiskFault} → Faults meaning does d f d' → f.cause ≡ Gone → Fails meaning does d f d'
-  fails {d} {d'} {f} p g =
-      record { from = p.from; sector = p.sector; reached = p.reached; asked = p.asked; gone = g; lost = lost-of f.cause (meaning p.from) (meaning d') p.sector f p.why g; not_calm = p.not_calm g }
+  pub fails : {d d' : D} {f : DiskFault} → good_size (meaning d).size ≡ true → Faults meaning does d f d' → f.cause ≡ Gone → Fails meaning does d f d'
+  fails {d} {d'} {f} s p g =
+      record { from = p.from; sector = p.sector; reached = p.reached; asked = p.asked; good = s; gone = g; lost = lost-of f.cause (meaning p.from) (meaning d') p.sector f p.why g; not_calm = p.not_calm g }
 
   -- refused by its size, and while the first leaf is looked for
   pub survey-size : {d : D} {old new : List FileRow} {marks : List Bool} {e : LayoutFault} {size : ℕ} → size ≡ (meaning d).size → (good_size size ≡ false) × (e ≡ BadSize) → Empty marks → Surveys meaning does d old (Err (Layout e)) d marks new
@@ -129,12 +129,13 @@ module _ {D : Type 0} {meaning : D → Meaning} {does : D → Request → Answer
       record {
         reads = none;
         read = read-same (meaning d);
+        stays = λ l. l;
         answer = record { is_found = bad-size _ _ (ap good_size (sym z) ∙ p.0) ∙ ap Err (sym p.1); empty = h };
       }
 
-  pub survey-level : {d d' : D} {old new : List FileRow} {marks : List Bool} (v : VolumeFault) → Levelled meaning does d (Err v) d' → Empty marks → Surveys meaning does d old (Err v) d' marks new
-  survey-level (Layout e) l h = absurd l.level
-  survey-level (Disk f) l h = record { reads = l.reads; read = l.read; answer = (fails l.leaves l.level, h) }
+  pub survey-level : {d d' : D} {old new : List FileRow} {marks : List Bool} → good_size (meaning d).size ≡ true → (v : VolumeFault) → Levelled meaning does d (Err v) d' → Empty marks → Surveys meaning does d old (Err v) d' marks new
+  survey-level s (Layout e) l h = absurd l.level
+  survey-level s (Disk f) l h = record { reads = l.reads; read = l.read; stays = tt; answer = (fails s l.leaves l.level, h) }
 
 -- the questions were asked of the disk d1, after the first leaf's level was read of d
 module _ {D : Type 0} {meaning : D → Meaning} {does : D → Request → Answer → D → Type 0} (d d1 d2 : D) (size level : ℕ) (k : Findings) (t : List FileRow) (x2 : Memory)
@@ -176,6 +177,7 @@ module _ {D : Type 0} {meaning : D → Meaning} {does : D → Request → Answer
         record {
           reads = reads-then l.reads p.reads;
           read = read-then l.read p.read;
+          stays = λ v. p.leaves (l.leaves v);
           answer = record {
             catalog = catalog (meaning d).size (meaning d).shown;
             is_found = found_of _ _ h.0 a;
@@ -187,6 +189,6 @@ module _ {D : Type 0} {meaning : D → Meaning} {does : D → Request → Answer
 
   pub survey-refused : {marks : List Bool} {new : List FileRow} (v : VolumeFault) → Surveyed meaning does d1 (record { found = k; rows = t }) (λ w. ask_page w.size w.shown w.deep 5 1 root_sector) (Err v) d2 x2 → Empty marks → Surveys meaning does d t (Err v) d2 marks new
   survey-refused (Layout e) p h =
-      record { reads = reads-then l.reads p.reads; read = read-then l.read p.read; answer = record { is_found = refused_of _ _ e (all-asked (Err e) (sym (agreed p))); empty = h } }
+      record { reads = reads-then l.reads p.reads; read = read-then l.read p.read; stays = λ v. p.leaves (l.leaves v); answer = record { is_found = refused_of _ _ e (all-asked (Err e) (sym (agreed p))); empty = h } }
   survey-refused (Disk f) p h =
-      record { reads = reads-then l.reads p.reads; read = read-then l.read p.read; answer = (fails (leaves-then meaning does d2 (Err (Disk f)) l.reads l.read l.leaves p.leaves) (agreed p), h) }
+      record { reads = reads-then l.reads p.reads; read = read-then l.read p.read; stays = tt; answer = (fails (ap good_size (sym z) ∙ good) (leaves-then meaning does d2 (Err (Disk f)) l.reads l.read l.leaves p.leaves) (agreed p), h) }

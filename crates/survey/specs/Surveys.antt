@@ -10,7 +10,7 @@ use Rattle.catalog.specs.declared.fault.LayoutFault.{LayoutFault}
 use Rattle.catalog.specs.declared.fault.VolumeFault.{VolumeFault}
 use Rattle.catalog.specs.declared.fault.VolumeFault.TheVariants.{Disk, Layout}
 use Rattle.catalog.specs.Catalogs.{Extent, Catalog, bytes_of, entries, page_sectors, file_sectors, free_sectors, rows, overlaid}
-use Rattle.catalog.specs.Questions.{found, file_found}
+use Rattle.catalog.specs.Questions.{good_size, found, file_found}
 use Rattle.survey.specs.declared.row.FileRow.{FileRow}
 use Rattle.survey.specs.declared.survey.Counts.{Counts}
 use Rattle.survey.specs.Lines.{lines, is_met}
@@ -43,6 +43,12 @@ pub record Refused (m : Meaning) (e : LayoutFault) (marks : List Bool) : Type 0 
   pub is_found : found m.size m.shown ≡ Err e
   pub empty : Empty marks
 
+-- unless its fault is the answer, a disk that was live is so afterwards
+abbrev pub Stays : {T : Type 0} → Meaning → Result T VolumeFault → Meaning → Type 0
+Stays m (Ok v) m' = m.live ≡ true → m'.live ≡ true
+Stays m (Err (Layout e)) m' = m.live ≡ true → m'.live ≡ true
+Stays m (Err (Disk f)) m' = Unit {0}
+
 module _ {D : Type 0} (meaning : D → Meaning) (does : D → Request → Answer → D → Type 0) where
   -- THE DISK'S FAULT, unchanged: what the last get of this disk answered, which is gone and not live after it. A calm and live disk has none
   pub record Fails (d : D) (f : DiskFault) (d' : D) : Type 0 where
@@ -50,6 +56,7 @@ module _ {D : Type 0} (meaning : D → Meaning) (does : D → Request → Answer
     pub sector : ℕ
     pub reached : Reads does d from
     pub asked : does from (getting sector) (Err f) d'
+    pub good : good_size (meaning d).size ≡ true
     pub gone : f.cause ≡ Gone
     pub lost : (meaning d').live ≡ false
     pub not_calm : (meaning d).calm ≡ true → (meaning d).live ≡ true → ⊥
@@ -63,6 +70,7 @@ module _ {D : Type 0} (meaning : D → Meaning) (does : D → Request → Answer
   pub record Surveys (d : D) (old : List FileRow) (r : Result Counts VolumeFault) (d' : D) (marks : List Bool) (new : List FileRow) : Type 0 where
     pub reads : Reads does d d'
     pub read : ReadOnly (meaning d) (meaning d')
+    pub stays : Stays (meaning d) r (meaning d')
     pub answer : SurveyAnswers d old r d' marks new
 
 -- READ. The file found at a first sector, alone: its length, and its bytes as far as the buffer takes them; it held old and holds new
@@ -84,6 +92,7 @@ Begun m first old new = (new ≡ old) ⊎ ((x : Extent) × (file_found m.size m.
 module _ {D : Type 0} (meaning : D → Meaning) (does : D → Request → Answer → D → Type 0) where
   -- there is no sector of that number: the disk's own answer, unchanged
   pub record NoSector (d : D) (first : ℕ) (f : DiskFault) (d' : D) (old new : List ℕ) : Type 0 where
+    pub good : good_size (meaning d).size ≡ true
     pub beyond : (meaning d).size ≤ first
     pub asked : does d (getting first) (Err f) d'
     pub outside : f.cause ≡ Outside
@@ -98,4 +107,5 @@ module _ {D : Type 0} (meaning : D → Meaning) (does : D → Request → Answer
   pub record Fetches (d : D) (first : ℕ) (old : List ℕ) (r : Result Length VolumeFault) (d' : D) (new : List ℕ) : Type 0 where
     pub reads : Reads does d d'
     pub read : ReadOnly (meaning d) (meaning d')
+    pub stays : Stays (meaning d) r (meaning d')
     pub answer : FetchAnswers d first old r d' new

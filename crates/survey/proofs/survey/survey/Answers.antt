@@ -21,8 +21,9 @@ returns-in_err-size g c =
 
 pub returns-in_err-leaf_level : goal.returns-in_err-leaf_level
 returns-in_err-leaf_level g c =
+    let s = c.in_ok-size.ensures in
     subst (λ (r : Result Counts VolumeFault). Surveys g.D.Disk.meaning g.D.Disk.does c.args.disk.now c.args.rows.now r c.leaf_level.new.disk c.new.result.met c.args.rows.now) (sym (exit _ c.from_residual-in_err-leaf_level.ensures.1))
-    (survey-level _ c.in_err-leaf_level.ensures (empty-new _ c.new.ensures))
+    (survey-level (ap good_size (sym (s.1 ∙ c.size.ensures.is)) ∙ (ap good_size s.1 ∙ s.0)) _ c.in_err-leaf_level.ensures (empty-new _ c.new.ensures))
 
 pub returns-in_err-ask_page : goal.returns-in_err-ask_page
 returns-in_err-ask_page g c =
