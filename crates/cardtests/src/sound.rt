@@ -41,6 +41,10 @@ fn check(
         map.count(),
         counts.pages.saturating_add(counts.file_sectors)
     );
+    for row in rows.iter().take(counts.names) {
+        assert_eq!(rt; map.is_met(row.first), true);
+    }
+    assert_eq!(rt; map.is_met(Sector(0)), false);
     Ok(())
 }
 
