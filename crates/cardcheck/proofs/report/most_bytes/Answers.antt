@@ -1,0 +1,5 @@
+use Rattle.cardcheck.proofs.Enough.{reads_enough}
+use Rattle.cardcheck.proofs.report.most_bytes.Goals as goal
+
+pub returns-clause-enough : goal.returns-clause-enough
+returns-clause-enough c = reads_enough
