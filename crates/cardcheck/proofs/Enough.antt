@@ -10,9 +10,6 @@ use Rattle.cardcheck.specs.declared.report.Report.{Report}
 use Rattle.cardcheck.specs.declared.report.Report.TheVariants.{Sound, Broken}
 use Rattle.cardcheck.specs.Judges.{Says, ReadsEnough}
 
-abbrev enough : ℕ
-enough = 1024 * (most_sectors + 1)
-
 too_large : (size : ℕ) → most_sectors < size → good_size size ≡ false
 too_large size h = go (good_size size) refl
   where
@@ -34,11 +31,11 @@ both_large cut bytes (Broken (Layout e)) p q h =
     record { is_found = bad-size (count bytes) (sector bytes) large ∙ ap Err same; none = λ c good laid. cc }
 both_large cut bytes (Broken (Disk f)) p q h = h
 
-pub reads_enough : ReadsEnough (1024 * (most_sectors + 1))
-reads_enough bytes r h = go (cases_lt enough (length bytes))
+pub reads_enough : (n : ℕ) → 1024 * (most_sectors + 1) ≤ n → ReadsEnough n
+reads_enough n m = record { says = λ bytes r h. go bytes r h (cases_lt n (length bytes)) }
   where
-    go : (enough < length bytes) ⊎ (length bytes ≤ enough) → Says bytes r
-    go (inl p) =
-        let long = length-take-le enough bytes (omega arith) in
-        both_large (take enough bytes) bytes r (omega (arith, long)) (omega (arith, p)) h
-    go (inr p) = subst (λ (bs : List ℕ). Says bs r) (take_all enough bytes p) h
+    go : (bytes : List ℕ) (r : Report) → Says (take n bytes) r → (n < length bytes) ⊎ (length bytes ≤ n) → Says bytes r
+    go bytes r h (inl p) =
+        let long = length-take-le n bytes (omega arith) in
+        both_large (take n bytes) bytes r (omega (arith, long, m)) (omega (arith, p, m)) h
+    go bytes r h (inr p) = subst (λ (bs : List ℕ). Says bs r) (take_all n bytes p) h

@@ -40,5 +40,5 @@ pub record Judges (bytes : List ℕ) (r : Result Report AllocError) (bytes' : Li
   pub same : bytes' ≡ bytes
 
 -- READ ENOUGH: what is said of the first n bytes is said of all
-abbrev pub ReadsEnough : ℕ → Type 0
-ReadsEnough n = (bytes : List ℕ) (r : Report) → Says (take n bytes) r → Says bytes r
+pub record ReadsEnough (n : ℕ) : Type 0 where
+  pub says : (bytes : List ℕ) (r : Report) → Says (take n bytes) r → Says bytes r
