@@ -1,6 +1,7 @@
 -- A survey of an image answers by its bytes alone, and leaves them as they were.
-use Rattle.std.proofs.Common.{◌≡◌, ℕ, ◌≤◌, Bool, List, [], ◌∷◌, ◌++◌, length, take, Ok, Err, Result, refl, sym, ap, ◌∙◌, arith, length-append}
+use Rattle.std.proofs.Common.{◌≡◌, Vec, vec_items, subst, ℕ, ◌≤◌, Bool, List, [], ◌∷◌, ◌++◌, length, take, Ok, Err, refl, sym, ap, ◌∙◌, arith, length-append}
 use lib.ListN.{length-map}
+use Rattle.std.specs.declared.alloc.Global.{Global}
 use Rattle.numbers.specs.Names.{Key}
 use Rattle.tree.specs.Tree.{Entry}
 use Rattle.disk.specs.declared.image.Image.{Image}
@@ -22,9 +23,8 @@ use Rattle.survey.specs.Reads.{Reads}
 use Rattle.survey.specs.Reads.Reads.{none, more}
 use Rattle.survey.specs.Surveys.{Surveys}
 use Rattle.survey.proofs.Counting.{rows-count}
-use Rattle.cardcheck.specs.declared.report.Verdict.{Verdict}
-use Rattle.cardcheck.specs.declared.report.Verdict.TheVariants.{Sound, Broken}
-use Rattle.cardcheck.specs.Judges.{Says, Judges}
+use Rattle.cardcheck.specs.declared.report.Report.TheVariants.{Sound, Broken}
+use Rattle.cardcheck.specs.Judges.{Holds, Says, Judges}
 
 abbrev pub image_meaning : Image → Meaning
 image_meaning d = over d.bytes.now
@@ -63,20 +63,16 @@ module _ (bytes : List ℕ) where
         let f = files-few (sector bytes) (entries c) c.files laid.files in
         omega (arith, length-map (rows c) line, rows-count (sector bytes) (entries c) c.files laid.files, d, f)
 
-    whole-listing : (n : ℕ) (old : List FileRow) → n ≡ length (entries c) → count bytes ≤ length old → take n (overlaid (lines (rows c)) old) ≡ lines (rows c)
+    whole-listing : (n : ℕ) (old : List FileRow) → n ≡ length (entries c) → length old ≡ count bytes → take n (overlaid (lines (rows c)) old) ≡ lines (rows c)
     whole-listing n old e h =
         let r = rows-count (sector bytes) (entries c) c.files laid.files in
         let m = length-map (rows c) line in
         let f = names-fit in
         ap (λ (k : ℕ). take k (overlaid (lines (rows c)) old)) (e ∙ sym r ∙ sym m) ∙ take-overlaid (lines (rows c)) old (omega (arith, f, h))
 
-abbrev pub verdict_of : Result Counts VolumeFault → Verdict
-verdict_of (Ok n) = Sound n
-verdict_of (Err f) = Broken f
-
 module _ {d d' : Image} {old new : List FileRow} {marks : List Bool} where
-  says-from_survey : (r : Result Counts VolumeFault) → Surveys image_meaning image_does d old r d' marks new → Says d.bytes.now old (verdict_of r) new
-  says-from_survey (Ok n) s =
+  survey_holds : (n : Counts) → length old ≡ count d.bytes.now → Surveys image_meaning image_does d old (Ok n) d' marks new → Holds d.bytes.now (take n.names new) n
+  survey_holds n long s =
       let a = s.answer in
       let b = d.bytes.now in
       let laid = ((found-laid-both (count b) (sector b) a.catalog (sized b)).0 a.is_found).1 in
@@ -85,13 +81,20 @@ module _ {d d' : Image} {old new : List FileRow} {marks : List Bool} where
         is_laid = laid;
         is_found = a.is_found;
         counts = a.counts;
-        listed = a.listed;
-        whole = λ h. ap (take n.names) a.listed ∙ whole-listing b a.catalog laid n.names old a.counts.names h;
+        listed = ap (take n.names) a.listed ∙ whole-listing b a.catalog laid n.names old a.counts.names long;
       }
-  says-from_survey (Err (Layout e)) s =
+
+  survey_says_no : (f : VolumeFault) → Surveys image_meaning image_does d old (Err f) d' marks new → Says d.bytes.now (Broken f)
+  survey_says_no (Layout e) s =
       let b = d.bytes.now in
       record { is_found = s.answer.is_found; none = λ c good laid. refused-none (count b) (sector b) c e (sized b) good s.answer.is_found laid }
-  says-from_survey (Err (Disk f)) s = s.answer.0.not_calm refl refl
+  survey_says_no (Disk f) s = s.answer.0.not_calm refl refl
 
-  pub judges-from_survey : (r : Result Counts VolumeFault) → Surveys image_meaning image_does d old r d' marks new → Judges d.bytes.now old (verdict_of r) d'.bytes.now new
-  judges-from_survey r s = record { says = says-from_survey r s; same = same_bytes s.reads }
+  -- the listing of a sound card is cut to its names
+  pub judges_sound : (n : Counts) (files : Vec FileRow Global) → length old ≡ count d.bytes.now → Surveys image_meaning image_does d old (Ok n) d' marks new →
+      vec_items files ≡ take n.names new → Judges d.bytes.now (Ok (Sound files n)) d'.bytes.now
+  judges_sound n files long s cut =
+      record { says = subst (λ (xs : List FileRow). Holds d.bytes.now xs n) (sym cut) (survey_holds n long s); same = same_bytes s.reads }
+
+  pub judges_broken : (f : VolumeFault) → Surveys image_meaning image_does d old (Err f) d' marks new → Judges d.bytes.now (Ok (Broken f)) d'.bytes.now
+  judges_broken f s = record { says = survey_says_no f s; same = same_bytes s.reads }

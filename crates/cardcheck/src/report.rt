@@ -1,17 +1,28 @@
-ghost use Rattle.std.specs.Prelude.{◌≡◌, Some};
-ghost use Rattle.cardcheck.specs.Judges.{Judges};
-ghost use Rattle.cardcheck.specs.Texts.{row_text, fault_sector, verdict_text};
+ghost use Rattle.std.specs.Prelude.{◌≡◌, ◌+◌, ◌*◌, Some};
+ghost use Rattle.catalog.specs.Questions.{most_sectors};
+ghost use Rattle.cardcheck.specs.Judges.{Judges, ReadsEnough};
+ghost use Rattle.cardcheck.specs.Texts.{row_text, fault_sector, report_text, is_sound};
 
 use catalog::fault::VolumeFault;
 use disk::image::Image;
+use disk::{Disk, SECTOR_SIZE};
+use std::alloc::{AllocError, Global};
 use std::{fmt, str};
-use survey::map::SectorMap;
+use survey::map::{MOST_SECTORS, SectorMap};
 use survey::row::FileRow;
 use survey::survey::{Counts, survey};
 
+/// As many bytes as have to be read: a card of one sector more than there may be is refused, however much follows.
+pub(crate) fn most_bytes() -> usize
+    ensures value { result ≡ 1024 * (most_sectors + 1) }
+    ensures enough { ReadsEnough result }
+{
+    SECTOR_SIZE * (MOST_SECTORS + 1)
+}
+
 /// A file of a listing.
 #[derive(Clone, Copy)]
-pub(crate) struct Line<'a>(pub(crate) &'a FileRow);
+struct Line<'a>(&'a FileRow);
 
 impl fmt::Display for Line<'_> {
     ghost output = { λ line. Some (row_text line.0.now) };
@@ -24,21 +35,34 @@ impl fmt::Display for Line<'_> {
     }
 }
 
-/// What is said of a card.
-#[derive(Clone, Copy)]
-pub(crate) enum Verdict {
-    Sound(Counts),
+/// What is said of a card: the files and the counts of a sound one, or the first thing that is wrong.
+#[derive(Drop)]
+pub(crate) enum Report {
+    Sound(Vec<FileRow>, Counts),
     Broken(VolumeFault),
 }
 
-/// Surveys a card, and lists its files over the rows, as far as they reach.
-pub(crate) fn judge(card: &mut Image<'_>, rows: &mut [FileRow]) -> Verdict
-    ensures { Judges card.old.bytes.now rows.old result card.new.bytes.now rows.new }
-{
-    let mut map = SectorMap::new();
-    match survey(card, &mut map, rows) {
-        Ok(counts) => Verdict::Sound(counts),
-        Err(fault) => Verdict::Broken(fault),
+impl Report {
+    /// Surveys a card.
+    pub(crate) fn of(heap: Global, card: &mut Image<'_>) -> Result<Report, AllocError>
+        ensures { Judges card.old.bytes.now result card.new.bytes.now }
+    {
+        // rows enough: each name has a file of a sector at least
+        let mut files = vec![in heap; FileRow::default(); card.size()]?;
+        match survey(card, &mut SectorMap::new(), &mut files) {
+            Ok(counts) => {
+                files.truncate(counts.names);
+                Ok(Report::Sound(files, counts))
+            }
+            Err(fault) => Ok(Report::Broken(fault)),
+        }
+    }
+
+    /// Is the card sound?
+    pub(crate) fn is_sound(&self) -> bool
+        ensures { result ≡ is_sound self.now }
+    {
+        matches!(self, Report::Sound(..))
     }
 }
 
@@ -55,17 +79,22 @@ fn sector_of(fault: VolumeFault) -> usize
     }
 }
 
-impl fmt::Display for Verdict {
-    ghost output = { λ verdict. Some (verdict_text verdict) };
+impl fmt::Display for Report {
+    ghost output = { λ report. Some (report_text report) };
 
     fn fmt<W: fmt::Write>(&self, f: &mut fmt::Formatter<W>) -> fmt::Result {
         match self {
-            Verdict::Sound(counts) => write!(
-                f,
-                "ok,{},{},{},{}",
-                counts.names, counts.pages, counts.file_sectors, counts.free
-            ),
-            Verdict::Broken(fault) => {
+            Report::Sound(files, counts) => {
+                for row in files {
+                    writeln!(f, "{}", Line(row))?;
+                }
+                write!(
+                    f,
+                    "ok,{},{},{},{}",
+                    counts.names, counts.pages, counts.file_sectors, counts.free
+                )
+            }
+            Report::Broken(fault) => {
                 write!(f, "no,{},{}\n{fault}", fault.number(), sector_of(*fault))
             }
         }
