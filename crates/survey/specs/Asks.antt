@@ -42,6 +42,9 @@ pub record Memory : Type 0 where
   pub found : Findings
   pub rows : List FileRow
 
+abbrev pub memory : Findings → List FileRow → Memory
+memory k t = record { found = k; rows = t }
+
 -- the last name, or none yet
 abbrev pub LastIs : Option Name → Key → Type 0
 LastIs None k = k ≡ []

@@ -6,7 +6,7 @@ ghost use Rattle.numbers.specs.Lengths.{longest};
 ghost use Rattle.catalog.specs.Questions.{most_sectors, begin, is_above, rise as rise_asks, list as list_asks};
 ghost use Rattle.survey.specs.declared.row.FileRow.{FileRow};
 ghost use Rattle.survey.specs.Lines.{met_count};
-ghost use Rattle.survey.specs.Asks.{World, Stands, Asked, Tells, LastIs, address_asks, Led, told_layout, yes};
+ghost use Rattle.survey.specs.Asks.{World, Stands, Asked, Tells, LastIs, address_asks, Led, told_layout, yes, memory};
 
 use crate::findings::Findings;
 use crate::map::SectorMap;
@@ -31,7 +31,7 @@ impl Findings {
         requires few { size ≤ most_sectors }
         requires inside { first.0 < size }
         ensures size { result.size ≡ size }
-        ensures stands { (w : World) (t : List FileRow) → size ≡ w.size → leaf_level ≡ w.deep → Stands w t (record { found = result; rows = t }) (begin w.size w.shown first.0) }
+        ensures stands { (w : World) (t : List FileRow) → size ≡ w.size → leaf_level ≡ w.deep → Stands w t (memory result t) (begin w.size w.shown first.0) }
     {
         let mut map = SectorMap::new();
         map.meet(first);
@@ -47,7 +47,8 @@ impl Findings {
 
     /// Asks an address that is due whether it leads to a sector, and that sector whether it is met for the first time.
     pub(crate) fn follow(&mut self, holder: Sector, address: Address) -> Result<Sector, LayoutFault>
-        ensures told { (rows : List FileRow) → Tells (record { found = self.old; rows = rows }) (address_asks true holder.0 address.0) (told_layout result) (record { found = self.new; rows = rows }) }
+        ensures told { (rows : List FileRow) → Tells (memory self.old rows)
+            (address_asks true holder.0 address.0) (told_layout result) (memory self.new rows) }
         ensures led { IfOk result (λ n. Led true address.0 self.new (Some n)) }
         ensures more { OnOk result ((self.new.names ≡ self.old.names) × (met_count self.new.map.met ≡ met_count self.old.map.met + 1)) }
     {
@@ -67,7 +68,8 @@ impl Findings {
         address: Address,
         due: bool,
     ) -> Result<Option<Sector>, LayoutFault>
-        ensures told { (rows : List FileRow) → Tells (record { found = self.old; rows = rows }) (address_asks due holder.0 address.0) (told_layout result) (record { found = self.new; rows = rows }) }
+        ensures told { (rows : List FileRow) → Tells (memory self.old rows)
+            (address_asks due holder.0 address.0) (told_layout result) (memory self.new rows) }
         ensures led { IfOk result (Led due address.0 self.new) }
     {
         if due {
@@ -86,7 +88,8 @@ impl Findings {
         holder: Sector,
         field: [u8; NAME_SIZE],
     ) -> Result<Name, LayoutFault>
-        ensures told { (rows : List FileRow) → Tells (record { found = self.old; rows = rows }) (λ w. rise_asks holder.0 field) (told_layout result) (record { found = self.new; rows = rows }) }
+        ensures told { (rows : List FileRow) → Tells (memory self.old rows)
+            (λ w. rise_asks holder.0 field) (told_layout result) (memory self.new rows) }
         ensures name { IfOk result (λ n. (n.bytes ≡ field) × (is_name_field field ≡ true)) }
     {
         let Some(name) = Name::from_field(field) else {
@@ -104,7 +107,8 @@ impl Findings {
         requires room { self.old.names < met_count self.old.map.met }
         requires name { is_name_field row.name.bytes ≡ true }
         requires fits { row.length.0 ≤ longest }
-        ensures told { (w : World) → Asked w (record { found = self.old; rows = rows.old }) (list_asks (record { name = name_in row.name.bytes; first = row.first.0; long = row.length.0 })) yes (record { found = self.new; rows = rows.new }) }
+        ensures told { (w : World) → Asked w (memory self.old rows.old)
+            (list_asks (record { name = name_in row.name.bytes; first = row.first.0; long = row.length.0 })) yes (memory self.new rows.new) }
         ensures counted { self.new.names ≡ self.old.names + 1 }
         ensures same { self.new.map.met ≡ self.old.map.met }
     {

@@ -4,7 +4,7 @@ ghost use Rattle.disk.specs.Meaning.{Contents};
 ghost use Rattle.numbers.specs.Lengths.{longest, most_tables};
 ghost use Rattle.catalog.specs.Questions.{◌▸◌, length_at, ask_table as table_questions, ask_file as file_questions};
 ghost use Rattle.survey.specs.declared.row.FileRow.{FileRow};
-ghost use Rattle.survey.specs.Asks.{World, Memory, Tells, Surveyed, told, told_layout, HeadFault, head_fault, head_asks, near_asks, table_asks, HeaderOf};
+ghost use Rattle.survey.specs.Asks.{World, Memory, Tells, Surveyed, told, told_layout, HeadFault, head_fault, head_asks, near_asks, table_asks, HeaderOf, memory};
 
 use crate::findings::Findings;
 use catalog::fault::{LayoutFault, VolumeFault};
@@ -43,7 +43,8 @@ fn ask_head(bytes: &SectorBytes, first: Sector) -> Result<Header, LayoutFault>
 
 /// Asks the addresses of file sectors 1 to 63.
 fn ask_near(findings: &mut Findings, header: &Header, first: Sector) -> Result<(), LayoutFault>
-    ensures { (c : Contents) (rows : List FileRow) → HeaderOf c header.now → Tells (record { found = findings.old; rows = rows }) (near_asks c first.0) (told_layout result) (record { found = findings.new; rows = rows }) }
+    ensures { (c : Contents) (rows : List FileRow) → HeaderOf c header.now → Tells (memory findings.old rows)
+        (near_asks c first.0) (told_layout result) (memory findings.new rows) }
 {
     let last = header.length.last_sector();
     for i in 1..NEAR_ADDRESSES {
@@ -62,7 +63,8 @@ fn ask_table<D: Disk>(
 ) -> Result<(), VolumeFault>
     requires few { k < most_tables }
     requires inside { table.0 < findings.old.size }
-    ensures { (rows : List FileRow) → Surveyed D.Disk.meaning D.Disk.does disk.old (record { found = findings.old; rows = rows }) (λ w. table_questions w.size w.shown last k table.0) (told result) disk.new (record { found = findings.new; rows = rows }) }
+    ensures { (rows : List FileRow) → Surveyed D.Disk.meaning D.Disk.does disk.old (memory findings.old rows)
+        (λ w. table_questions w.size w.shown last k table.0) (told result) disk.new (memory findings.new rows) }
 {
     let mut bytes = blank_sector();
     disk.get(usize::from(table.0), &mut bytes)?;
@@ -82,7 +84,8 @@ fn ask_tables<D: Disk>(
     header: &Header,
     first: Sector,
 ) -> Result<(), VolumeFault>
-    ensures { (c : Contents) (rows : List FileRow) → HeaderOf c header.now → Surveyed D.Disk.meaning D.Disk.does disk.old (record { found = findings.old; rows = rows }) (table_asks c first.0) (told result) disk.new (record { found = findings.new; rows = rows }) }
+    ensures { (c : Contents) (rows : List FileRow) → HeaderOf c header.now → Surveyed D.Disk.meaning D.Disk.does disk.old (memory findings.old rows)
+        (table_asks c first.0) (told result) disk.new (memory findings.new rows) }
 {
     let last = header.length.last_sector();
     for k in 0..MOST_TABLES {
@@ -114,7 +117,8 @@ pub(crate) fn ask_links<D: Disk>(
     header: &Header,
     first: Sector,
 ) -> Result<(), VolumeFault>
-    ensures { (c : Contents) (rows : List FileRow) → HeaderOf c header.now → Surveyed D.Disk.meaning D.Disk.does disk.old (record { found = findings.old; rows = rows }) (λ w. near_asks c first.0 w ▸ table_asks c first.0 w) (told result) disk.new (record { found = findings.new; rows = rows }) }
+    ensures { (c : Contents) (rows : List FileRow) → HeaderOf c header.now → Surveyed D.Disk.meaning D.Disk.does disk.old (memory findings.old rows)
+        (λ w. near_asks c first.0 w ▸ table_asks c first.0 w) (told result) disk.new (memory findings.new rows) }
 {
     ask_near(findings, header, first)?;
     ask_tables(disk, findings, header, first)
@@ -127,7 +131,8 @@ pub(crate) fn ask_file<D: Disk>(
     first: Sector,
 ) -> Result<Length, VolumeFault>
     requires { first.0 < findings.old.size }
-    ensures told { (rows : List FileRow) → Surveyed D.Disk.meaning D.Disk.does disk.old (record { found = findings.old; rows = rows }) (λ w. file_questions w.size w.shown first.0) (told result) disk.new (record { found = findings.new; rows = rows }) }
+    ensures told { (rows : List FileRow) → Surveyed D.Disk.meaning D.Disk.does disk.old (memory findings.old rows)
+        (λ w. file_questions w.size w.shown first.0) (told result) disk.new (memory findings.new rows) }
     ensures length { IfOk result (λ l. (l.0 ≡ length_at (D.Disk.meaning disk.old).size (D.Disk.meaning disk.old).shown first.0) × (l.0 ≤ longest) × (first.0 < (D.Disk.meaning disk.old).size)) }
 {
     let header = read_head(disk, first)?;

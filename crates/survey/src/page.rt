@@ -2,7 +2,7 @@
 ghost use Rattle.std.specs.Prelude.{◌≡◌, ◌<◌, ◌≤◌, ◌-◌, not, ◌&&◌, ◌||◌, ◌==◌, nat_le, IfOk};
 ghost use Rattle.tree.specs.Tree.{most_levels};
 ghost use Rattle.catalog.specs.Questions.{kind_at, ask_page as page_questions};
-ghost use Rattle.survey.specs.Asks.{Memory, Tells, Surveyed, Levelled, told, told_layout, top_asks, TopOf, entry_asks, below_asks};
+ghost use Rattle.survey.specs.Asks.{Memory, Tells, Surveyed, Levelled, told, told_layout, top_asks, TopOf, entry_asks, below_asks, memory};
 
 use crate::file::ask_file;
 use crate::findings::Findings;
@@ -91,7 +91,8 @@ fn ask_entry<D: Disk>(
     page: Sector,
     entry: &StoredEntry,
 ) -> Result<(), VolumeFault>
-    ensures { Surveyed D.Disk.meaning D.Disk.does disk.old (record { found = findings.old; rows = rows.old }) (entry_asks page.0 entry.now.name.bytes entry.now.file.0) (told result) disk.new (record { found = findings.new; rows = rows.new }) }
+    ensures { Surveyed D.Disk.meaning D.Disk.does disk.old (memory findings.old rows.old)
+        (entry_asks page.0 entry.now.name.bytes entry.now.file.0) (told result) disk.new (memory findings.new rows.new) }
 {
     let name = findings.rise(page, entry.name.bytes)?;
     let first = findings.follow(page, entry.file)?;
@@ -118,7 +119,8 @@ fn ask_below<D: Disk>(
     due: bool,
 ) -> Result<(), VolumeFault>
     requires { parent.level ≤ most_levels }
-    ensures { Surveyed D.Disk.meaning D.Disk.does disk.old (record { found = findings.old; rows = rows.old }) (below_asks parent.level due parent.page.0 address.0) (told result) disk.new (record { found = findings.new; rows = rows.new }) }
+    ensures { Surveyed D.Disk.meaning D.Disk.does disk.old (memory findings.old rows.old)
+        (below_asks parent.level due parent.page.0 address.0) (told result) disk.new (memory findings.new rows.new) }
 {
     match findings.link(parent.page, address, due)? {
         Some(page) => ask_page(
@@ -144,7 +146,8 @@ pub(crate) fn ask_page<D: Disk>(
 ) -> Result<(), VolumeFault>
     requires level { place.level ≤ 5 }
     requires inside { place.page.0 < findings.old.size }
-    ensures { Surveyed D.Disk.meaning D.Disk.does disk.old (record { found = findings.old; rows = rows.old }) (λ w. page_questions w.size w.shown w.deep (6 - place.level) place.level place.page.0) (told result) disk.new (record { found = findings.new; rows = rows.new }) }
+    ensures { Surveyed D.Disk.meaning D.Disk.does disk.old (memory findings.old rows.old)
+        (λ w. page_questions w.size w.shown w.deep (6 - place.level) place.level place.page.0) (told result) disk.new (memory findings.new rows.new) }
 {
     let mut bytes = blank_sector();
     disk.get(usize::from(place.page.0), &mut bytes)?;
