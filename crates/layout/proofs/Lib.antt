@@ -4,5 +4,6 @@ pub mod Heading
 pub mod Numbers
 pub mod PageForm
 pub mod Paging
+pub mod Places
 pub mod Reading
 pub mod Writing

@@ -1,16 +1,16 @@
 //! Directory pages: made, written to sectors and read from them.
-ghost use Rattle.std.specs.Prelude.{◌≡◌, ◌<◌, ◌≤◌, [], ◌∷◌, ◌++◌, length, codes, Some, Ok, Err, MatchOption, MatchResult, slice_index_or};
+ghost use Rattle.std.specs.Prelude.{◌≡◌, ◌<◌, ◌≤◌, [], ◌∷◌, ◌++◌, length, codes, Some, Ok, Err, MatchOption, MatchResult, IfOk, slice_index_or};
 ghost use Rattle.layout.specs.Entries.{most_entries, most_held, entries_at, all_entry_bytes};
 ghost use Rattle.layout.specs.Words.{written};
 ghost use Rattle.layout.specs.Pages.{page_bytes, rows_in, page_in};
 
+use crate::entries::Entries;
 use crate::entry::{
     COUNT_AT, ENTRIES_AT, ENTRY_SIZE, Entry, FIRST_AT, MARK_AT, MOST_ENTRIES, PAGE_MARK, PageFault,
     PageHead, PageKind, StoredEntry,
 };
-use crate::page::{MOST_HELD, Page};
+use crate::page::Page;
 use crate::word::{SectorBytes, Stored};
-use arrayvec::ArrayVec;
 use numbers::sector::{Address, Sector};
 use std::error::Error;
 use std::fmt;
@@ -36,19 +36,15 @@ impl Page {
     {
         Page {
             first,
-            entries: ArrayVec::new(),
+            entries: Entries::new(),
         }
     }
 
     /// The same page once more.
-    // beside `clone`, which answers a Result: this cannot fail
     pub fn copied(&self) -> Page
         ensures { result ≡ self.now }
     {
-        Page {
-            first: self.first,
-            entries: ArrayVec::try_from(self.entries.as_slice()).unwrap(),
-        }
+        *self
     }
 
     /// The number of entries, 25 at most.
@@ -68,11 +64,12 @@ impl Page {
 
     /// One entry more, behind the others. A refusal changes nothing.
     pub fn push(&mut self, entry: Entry) -> Result<(), PageFull>
-        ensures { MatchResult result
+        ensures value { MatchResult result
             (λ _. (self.new.rows ≡ self.old.rows ++ entry ∷ []) × (self.new.first ≡ self.old.first))
             (λ _. (self.new ≡ self.old) × (length self.old.rows ≡ most_held)) }
+        ensures fits { length self.new.rows ≤ most_held }
     {
-        self.entries.try_push(entry).map_err(|_| PageFull)
+        self.entries.try_push(entry)
     }
 
     /// Writes the entries to their places.
@@ -103,7 +100,8 @@ impl Page {
 
     /// The page in a sector of a disk of `size` sectors. Asked are the mark and the zeros, the count, the address of the first page, then the entries.
     pub fn decode(sector: &SectorBytes, kind: PageKind, size: u16) -> Result<Page, PageFault>
-        ensures { result ≡ page_in kind size sector.now }
+        ensures value { result ≡ page_in kind size sector.now }
+        ensures fits { IfOk result (λ p. length p.rows ≤ most_held) }
     {
         let head = PageHead::read(sector)?;
         head.check_count(kind)?;
@@ -126,13 +124,13 @@ fn read_entries(
     count: u32,
     leaf: bool,
     size: u16,
-) -> Result<ArrayVec<Entry, MOST_HELD>, PageFault>
+) -> Result<Entries, PageFault>
     requires { count ≤ most_entries }
     ensures { MatchResult result
-        (λ v. rows_in size leaf sector.now 0 count ≡ Ok v.items)
+        (λ v. rows_in size leaf sector.now 0 count ≡ Ok v)
         (λ f. rows_in size leaf sector.now 0 count ≡ Err f) }
 {
-    let mut entries = ArrayVec::new();
+    let mut entries = Entries::new();
     // entry i is read from its place in the sector: there is no list to go over yet
     for i in 0..count as usize {
         let entry = StoredEntry::load(sector, ENTRIES_AT + ENTRY_SIZE * i).check(leaf, size)?;

@@ -2,6 +2,7 @@
 #![tactic(auto)]
 
 pub mod codec;
+pub mod entries;
 pub mod entry;
 pub mod header;
 pub mod laws;

@@ -1,6 +1,6 @@
 //! The directory page as the program holds it.
-use crate::entry::{Entry, MOST_ENTRIES};
-use arrayvec::ArrayVec;
+use crate::entries::Entries;
+use crate::entry::MOST_ENTRIES;
 use numbers::sector::Sector;
 use std::marker::Model;
 
@@ -8,10 +8,10 @@ use std::marker::Model;
 pub const MOST_HELD: usize = MOST_ENTRIES + 1;
 
 /// A directory page: the page of the names below its first entry, unless it is a leaf, and its entries.
-#[derive(Clone, Debug, PartialEq, Eq, Drop)]
+#[derive(Clone, Copy, Debug, PartialEq, Eq)]
 pub struct Page {
     pub first: Option<Sector>,
-    pub entries: ArrayVec<Entry, MOST_HELD>,
+    pub entries: Entries,
 }
 
 /// A contract sees what the page holds.
@@ -20,7 +20,7 @@ impl Model for Page {
 
     ghost Value = { PageData };
 
-    ghost view = { λ p. record { first = p.first; rows = p.entries.items } };
+    ghost view = { λ p. record { first = p.first; rows = p.entries } };
 
-    ghost inverse = { λ d. record { first = d.first; entries = record { items = d.rows } } };
+    ghost inverse = { λ d. record { first = d.first; entries = d.rows } };
 }

@@ -52,6 +52,7 @@ impl<const N: usize> Stored for [u8; N] {
 
     ghost standing = { λ c i. part c i N };
 
+    #[inline]
     fn store(&self, sector: &mut SectorBytes, at: usize) {
         sector[at..at + N].copy_from_slice(self);
     }
@@ -71,6 +72,7 @@ impl Stored for u32 {
 
     ghost standing = { word };
 
+    #[inline]
     fn store(&self, sector: &mut SectorBytes, at: usize) {
         self.to_le_bytes().store(sector, at);
     }
@@ -87,6 +89,7 @@ impl Stored for Address {
 
     ghost standing = { λ c i. record { 0 = word c i } };
 
+    #[inline]
     fn store(&self, sector: &mut SectorBytes, at: usize) {
         self.0.store(sector, at);
     }
@@ -103,6 +106,7 @@ impl Stored for Name {
 
     ghost standing = { λ c i. record { bytes = part c i name_size } };
 
+    #[inline]
     fn store(&self, sector: &mut SectorBytes, at: usize) {
         self.bytes.store(sector, at);
     }
@@ -114,6 +118,17 @@ impl Stored for Name {
     }
 }
 
+/// Writes addresses from byte `at` on, and no other byte.
+// of a slice: over an array, whose length is known, the loop is unrolled and takes three times as long as a copy
+fn store_addresses(list: &[Address], sector: &mut SectorBytes, at: usize)
+    requires { at + word_size * length list.now ≤ sector_size }
+    ensures { sector.new ≡ written sector.old at (stored_all (numbers list.now)) }
+{
+    for (i, address) in list.iter().enumerate() {
+        address.store(sector, at + WORD_SIZE * i);
+    }
+}
+
 impl<const N: usize> Stored for [Address; N] {
     ghost size = { word_size * N };
 
@@ -121,10 +136,9 @@ impl<const N: usize> Stored for [Address; N] {
 
     ghost standing = { λ c i. addresses_in c i N };
 
+    #[inline]
     fn store(&self, sector: &mut SectorBytes, at: usize) {
-        for (i, address) in self.iter().enumerate() {
-            address.store(sector, at + WORD_SIZE * i);
-        }
+        store_addresses(self, sector, at);
     }
 
     fn load(sector: &SectorBytes, at: usize) -> [Address; N] {

@@ -21,20 +21,25 @@ good_length [] h = omega arith
 good_length (b ∷ bs) h = grind (arith, nat_tests)
 
 -- FIELDS
-name-front : (f : List ℕ) → take (position_or_len (λ b. eqb b 0) f) f ≡ name_in f
+pub name-front : (f : List ℕ) → take (length (name_in f)) f ≡ name_in f
 name-front [] = refl
 name-front (zero ∷ bs) = refl
-name-front (suc b ∷ bs) =
+name-front (suc b ∷ bs) = ap (λ (t : List ℕ). suc b ∷ t) (name-front bs)
+
+front-before : (f : List ℕ) → take (position_or_len (λ b. eqb b 0) f) f ≡ name_in f
+front-before [] = refl
+front-before (zero ∷ bs) = refl
+front-before (suc b ∷ bs) =
     let n = position_or_len (λ b. eqb b 0) bs in
     let e : eqb (suc b) 0 ≡ false = ne_eqb (suc b) 0 (omega arith) in
     let s : 1 + n ≡ suc n = omega arith in
-    rw (e, s) (ap (λ (t : List ℕ). suc b ∷ t) (name-front bs))
+    rw (e, s) (ap (λ (t : List ℕ). suc b ∷ t) (front-before bs))
 
 pub front-found : (f : List ℕ) (n : ℕ) → position (λ b. eqb b 0) f ≡ Some n → take n f ≡ name_in f
-front-found f n e = let p : n ≡ position_or_len (λ b. eqb b 0) f = grind (arith, common_steps) in ap (λ (k : ℕ). take k f) p ∙ name-front f
+front-found f n e = let p : n ≡ position_or_len (λ b. eqb b 0) f = grind (arith, common_steps) in ap (λ (k : ℕ). take k f) p ∙ front-before f
 
 pub front-whole : (f : List ℕ) → position (λ b. eqb b 0) f ≡ None → f ≡ name_in f
-front-whole f e = sym (take_all (position_or_len (λ b. eqb b 0) f) f (grind (arith, common_steps))) ∙ name-front f
+front-whole f e = sym (take_all (position_or_len (λ b. eqb b 0) f) f (grind (arith, common_steps))) ∙ front-before f
 
 -- a text put at the front of zeros
 pub zero-filled : (t ys : List ℕ) → ys ≡ t → ys ++ drop (length t) (replicate name_size 0) ≡ name_field t

@@ -16,6 +16,15 @@ pub struct Sector(pub u16);
 #[derive(Clone, Copy, Debug, Default, PartialEq, Eq)]
 pub struct Address(pub u32);
 
+impl Sector {
+    /// The address that stands for this sector.
+    pub fn address(self) -> Address
+        ensures { result.0 ≡ address self.0 }
+    {
+        Address::from(self)
+    }
+}
+
 /// The address that stands for this sector.
 impl From<Sector> for Address {
     ghost from_gives = { λ s a. a.0 ≡ address s.0 };

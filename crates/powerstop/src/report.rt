@@ -47,7 +47,15 @@ struct Text<'a>(&'a SectorBytes);
 impl fmt::Display for Text<'_> {
     fn fmt<W: fmt::Write>(&self, f: &mut fmt::Formatter<W>) -> fmt::Result {
         let bytes = self.0;
-        for b in bytes.iter().take_while(|b| **b != 0) {
+        let end = bytes.iter().position(|b| *b == 0).unwrap_or(SECTOR_SIZE);
+        let shown = &bytes[..end];
+        // a plan's text at once: char by char took three times as long
+        if shown.is_ascii() {
+            if let Ok(text) = str::from_utf8(shown) {
+                return f.write_str(text);
+            }
+        }
+        for b in shown {
             f.write_char(char::from(*b))?;
         }
         Ok(())

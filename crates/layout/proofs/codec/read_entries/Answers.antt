@@ -1,4 +1,4 @@
-use Rattle.std.proofs.Common.{ap, ◌∙◌, arith}
+use Rattle.std.proofs.Common.{[], ◌∷◌, length, ap, ◌∙◌, length-append, arith}
 use Rattle.std.proofs.lemmas.Result.{err_from_is_err_and}
 use Rattle.layout.specs.Entries.{check_entry}
 use Rattle.layout.proofs.Paging.{row_read, row-refused}
@@ -13,6 +13,6 @@ returns-in_err-entry c =
 pub loop-i-preserved : goal.loop-i-preserved
 loop-i-preserved c = (
   row_read c.args.size c.args.leaf c.args.sector.now c.args.count c.loop-i.i (omega arith) _ _ _ c.in_ok-entry.entry
-      (c.in_ok-entry.ensures ∙ ap (check_entry c.args.size c.args.leaf) c.load.ensures) c.push.ensures.items c.loop-i.invariant.0,
-  omega (arith, c.push.ensures.len, c.loop-i.invariant.1),
+      (c.in_ok-entry.ensures ∙ ap (check_entry c.args.size c.args.leaf) c.load.ensures) c.push.ensures c.loop-i.invariant.0,
+  omega (arith, ap length c.push.ensures ∙ length-append c.loop-i.entries (c.in_ok-entry.entry ∷ []), c.loop-i.invariant.1),
 )

@@ -5,5 +5,5 @@ use Rattle.layout.proofs.codec.read_entries.Given as goal
 
 abbrev pub invariant-loop-i : goal.invariant-loop-i
 invariant-loop-i l =
-    (rows_in l.size l.leaf l.sector 0 l.count ≡ onto l.entries.items (rows_in l.size l.leaf l.sector l.i (l.count - l.i)))
-    × (length l.entries.items ≡ l.i)
+    (rows_in l.size l.leaf l.sector 0 l.count ≡ onto l.entries (rows_in l.size l.leaf l.sector l.i (l.count - l.i)))
+    × (length l.entries ≡ l.i)

@@ -8,4 +8,4 @@ pub returns : goal.returns
 unfolding blank
 returns c =
     rw (← c.self.view_is)
-    (omega arith, page-written c.store.new.sector c.store-2.new.sector c.store-3.new.sector c.put_entries.new.sector _ _ (all_entry_bytes c.self.inside.entries.items) c.store.ensures.after (cc) (cc) (rw (← c.self.view_is) at c.put_entries.ensures))
+    (omega arith, page-written c.store.new.sector c.store-2.new.sector c.store-3.new.sector c.put_entries.new.sector _ _ (all_entry_bytes c.self.inside.entries) c.store.ensures.after (cc) (cc) (rw (← c.self.view_is) at c.put_entries.ensures))
