@@ -15,9 +15,6 @@ pub fn insert(page: &mut Page, i: usize, entry: Entry) -> Result<(), Misfit>
         (λ _. (page.new ≡ page.old) × ((length page.old.rows ≡ most_held) ⊎ (length page.old.rows < i))) }
     ensures fits { length page.new.rows ≤ most_held }
 {
-    if i > page.entries.len() {
-        return Err(Misfit);
-    }
     page.entries.try_insert(i, entry).map_err(|_| Misfit)
 }
 

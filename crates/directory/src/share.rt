@@ -1,8 +1,8 @@
 //! Splitting a page, evening out two neighbours through the entry between them, and joining them with it.
-ghost use Rattle.std.specs.Prelude.{◌≡◌, ◌+◌, ◌<◌, ◌≤◌, true, false, length, Some, MatchOption, MatchResult, IfSome, IfOk};
+ghost use Rattle.std.specs.Prelude.{◌≡◌, ◌<◌, ◌≤◌, ◌==◌, ◌&&◌, ◌||◌, nat_lt, true, false, length, Some, MatchOption, MatchResult, IfSome, IfOk};
 ghost use Rattle.layout.specs.Entries.{least_entries, most_entries};
 ghost use Rattle.directory.specs.Rows.{most_held};
-ghost use Rattle.directory.specs.Lines.{line, joined, Cut, Shared, uneven, lent, share};
+ghost use Rattle.directory.specs.Lines.{over, line, joined, short, Cut, Shared, uneven, lent, share};
 
 use crate::kind::Misfit;
 use arrayvec::ArrayVec;
@@ -18,31 +18,11 @@ const SHORT: usize = LEAST_ENTRIES - 1;
 const MOST_IN_LINE: usize = 2 * MOST_HELD + 1;
 
 /// Two neighbours and the entry between them, which stands over the right page.
-#[derive(Clone, Debug, PartialEq, Eq, Drop)]
+#[derive(Clone, Copy, Debug, PartialEq, Eq)]
 pub struct Neighbours {
     pub left: Page,
     pub middle: Entry,
     pub right: Page,
-}
-
-/// Cuts a line in two: the left page, below which `first` stands, has `kept` entries, the next one rises, and the right page has the others.
-fn cut(first: Option<Sector>, all: &[Entry], kept: usize) -> Neighbours
-    requires { (kept < length all.now) × (kept ≤ most_held) × (length all.now ≤ kept + 1 + most_held) }
-    ensures value { Cut kept first all.now result }
-    ensures fits { (length result.left.rows ≤ most_held) × (length result.right.rows ≤ most_held) }
-{
-    let middle = all[kept];
-    Neighbours {
-        left: Page {
-            first,
-            entries: Entries::try_from(&all[..kept]).unwrap(),
-        },
-        middle,
-        right: Page {
-            first: middle.below,
-            entries: Entries::try_from(&all[kept + 1..]).unwrap(),
-        },
-    }
 }
 
 /// Splits a page of 25 entries: it keeps 12, and the answer is the middle one, over the right page that is to stand at sector `at`, and the right page with the other 12.
@@ -77,35 +57,41 @@ fn loan(count: usize) -> usize
     (count - SHORT) / 2
 }
 
+/// The entry between two neighbours as it comes down: over the first page below the right one.
+fn come_down(middle: &Entry, right: &Page) -> Entry
+    ensures { result ≡ over middle.now right.now.first }
+{
+    Entry {
+        below: right.first,
+        ..*middle
+    }
+}
+
+/// The entries of both pages in a line: the entry between them comes down, over the first page below the right one.
+fn line(left: &Page, middle: &Entry, right: &Page) -> ArrayVec<Entry, MOST_IN_LINE>
+    ensures { result.items ≡ line (record { left = left.now; middle = middle.now; right = right.now }) }
+{
+    let mut all = ArrayVec::new();
+    all.try_extend_from_slice(&left.entries).unwrap();
+    all.push(come_down(middle, right));
+    all.try_extend_from_slice(&right.entries).unwrap();
+    all
+}
+
+/// How many entries the left of two pages with so many ends with, if one is left with 11 and the other has more than 12.
+fn fair_share(left: usize, right: usize) -> Option<usize>
+    requires { (left ≤ most_held) × (right ≤ most_held) }
+    ensures { MatchOption result (((left == short && nat_lt least_entries right) || (nat_lt least_entries left && right == short)) ≡ false)
+        (λ m. (((left == short && nat_lt least_entries right) || (nat_lt least_entries left && right == short)) ≡ true) × (m ≡ share left right) × (m ≤ most_held)) }
+{
+    match (left, right) {
+        (SHORT, right) if right > LEAST_ENTRIES => Some(SHORT + loan(right)),
+        (left, SHORT) if left > LEAST_ENTRIES => Some(left - loan(left)),
+        _ => None,
+    }
+}
+
 impl Neighbours {
-    /// The entries of both pages in a line: the entry between them comes down, over the first page below the right one.
-    fn line(&self) -> ArrayVec<Entry, MOST_IN_LINE>
-        ensures { result.items ≡ line self.now }
-    {
-        let fallen = Entry {
-            below: self.right.first,
-            ..self.middle
-        };
-        let mut all = ArrayVec::new();
-        all.try_extend_from_slice(&self.left.entries).unwrap();
-        all.push(fallen);
-        all.try_extend_from_slice(&self.right.entries).unwrap();
-        all
-    }
-
-    /// How many entries the left page ends with, if one of the two is left with 11 entries and the other has more than 12.
-    fn fair_share(&self) -> Option<usize>
-        ensures value { MatchOption result (uneven self.now ≡ false)
-            (λ m. (uneven self.now ≡ true) × (m ≡ share (length self.now.left.rows) (length self.now.right.rows)) × (m ≤ most_held)) }
-        ensures fits { (length self.now.left.rows ≤ most_held) × (length self.now.right.rows ≤ most_held) }
-    {
-        match (self.left.entries.len(), self.right.entries.len()) {
-            (SHORT, right) if right > LEAST_ENTRIES => Some(SHORT + loan(right)),
-            (left, SHORT) if left > LEAST_ENTRIES => Some(left - loan(left)),
-            _ => None,
-        }
-    }
-
     /// Evens out the two, one left with 11 entries and the other with more than 12, through the entry between them, which stays over the right page.
     pub fn even_out(&mut self) -> Result<(), Misfit>
         ensures value { MatchResult result
@@ -113,11 +99,7 @@ impl Neighbours {
             (λ _. (uneven self.old ≡ false) × (self.new ≡ self.old)) }
         ensures fits { (length self.new.left.rows ≤ most_held) × (length self.new.right.rows ≤ most_held) }
     {
-        let kept = self.fair_share().ok_or(Misfit)?;
-        let below = self.middle.below;
-        *self = cut(self.left.first, &self.line(), kept);
-        self.middle.below = below;
-        Ok(())
+        even_out(&mut self.left, &mut self.middle, &mut self.right)
     }
 
     /// The left page with the entry between the two and all of the right one's behind its own, if they are 24 at most.
@@ -142,15 +124,16 @@ pub fn even_out(left: &mut Page, middle: &mut Entry, right: &mut Page) -> Result
         × (left.new ≡ left.old) × (middle.new ≡ middle.old) × (right.new ≡ right.old)) }
     ensures fits { (length left.new.rows ≤ most_held) × (length right.new.rows ≤ most_held) }
 {
-    let mut both = Neighbours {
-        left: *left,
-        middle: *middle,
-        right: *right,
+    let kept = fair_share(left.count(), right.count()).ok_or(Misfit)?;
+    let all = line(left, middle, right);
+    let risen = all[kept];
+    left.entries = Entries::try_from(&all[..kept]).unwrap();
+    *right = Page {
+        first: risen.below,
+        entries: Entries::try_from(&all[kept + 1..]).unwrap(),
     };
-    both.even_out()?;
-    *left = both.left;
-    *middle = both.middle;
-    *right = both.right;
+    middle.name = risen.name;
+    middle.file = risen.file;
     Ok(())
 }
 
@@ -165,11 +148,7 @@ pub fn join(left: &mut Page, middle: Entry, right: &Page) -> Result<(), Misfit>
     if left.count() + right.count() >= MOST_ENTRIES {
         return Err(Misfit);
     }
-    let fallen = Entry {
-        below: right.first,
-        ..middle
-    };
-    left.entries.try_push(fallen).unwrap();
+    left.entries.try_push(come_down(&middle, right)).unwrap();
     left.entries.try_extend_from_slice(&right.entries).unwrap();
     Ok(())
 }

@@ -40,7 +40,7 @@ module _ {X : Type 0} (es : List X) (n i : ℕ) where
       take-set-lt (n + 1) t i e (omega arith) ∙ ap (λ (xs : List X). set xs i e) f ∙ set_at (take i es) _ _ e i (length-take-le i es (omega arith))
       ∙ ap₂ (λ (xs ys : List X). xs ++ e ∷ ys) (sym (take-take i n es l)) (behind l)
 
-  pub put_in-behind : (t : List X) → i ≤ n → n < length es → t ≡ paste es (i + 1) (drop i es) (n - i) → drop (n + 1) t ≡ drop (n + 1) es
+  put_in-behind : (t : List X) → i ≤ n → n < length es → t ≡ paste es (i + 1) (drop i es) (n - i) → drop (n + 1) t ≡ drop (n + 1) es
   put_in-behind t l m h =
       let k : n + 1 ≡ i + 1 + (n - i) = omega arith in
       ap₂ drop k h ∙ drop-paste es (i + 1) (drop i es) (n - i) (omega arith) (omega (arith, length-drop i es)) ∙ ap (λ (j : ℕ). drop j es) (sym k)

@@ -1,5 +1,5 @@
 //! The entries of a directory page in fixed memory.
-ghost use Rattle.std.specs.Prelude.{◌≡◌, ◌+◌, ◌<◌, ◌≤◌, [], ◌∷◌, ◌++◌, length, take, Ok, Err, insert, remove, slice_get, slice_set, MatchOption, MatchResult, IsSome, OnSome, IfNone, ◌↔◌};
+ghost use Rattle.std.specs.Prelude.{◌≡◌, ◌+◌, ◌<◌, ◌≤◌, ◌⊎◌, [], ◌∷◌, ◌++◌, length, take, insert, remove, slice_get, slice_set, MatchOption, MatchResult, IsSome, OnSome, IfNone, ◌↔◌};
 ghost use Rattle.layout.specs.Entries.{most_held};
 ghost use Rattle.layout.specs.Places.{no_entry, in_places};
 
@@ -79,7 +79,7 @@ impl Entries {
         ensures value { result ≡ length self.now }
         ensures fits { length self.now ≤ most_held }
     {
-        self.count
+        self.as_slice().len()
     }
 
     /// How many more entries fit.
@@ -150,16 +150,15 @@ impl Entries {
         }
     }
 
-    /// An entry put in as entry `i`, before the one that stood there, or behind the last. A refusal changes nothing.
-    pub fn try_insert(&mut self, i: usize, entry: Entry) -> Result<(), PageFull>
-        requires { i ≤ length self.old }
+    /// An entry put in as entry `i`, before the one that stood there, or behind the last. Where there is no room or no such place it comes back, and nothing changes.
+    pub fn try_insert(&mut self, i: usize, entry: Entry) -> Result<(), Entry>
         ensures value { MatchResult result
-            (λ _. (length self.old < most_held) × (self.new ≡ insert self.old i entry))
-            (λ _. (self.new ≡ self.old) × (length self.old ≡ most_held)) }
+            (λ _. (length self.old < most_held) × (i ≤ length self.old) × (self.new ≡ insert self.old i entry))
+            (λ e. (e ≡ entry) × (self.new ≡ self.old) × ((length self.old ≡ most_held) ⊎ (length self.old < i))) }
         ensures fits { length self.new ≤ most_held }
     {
-        if self.count == MOST_HELD {
-            return Err(PageFull);
+        if self.count == MOST_HELD || i > self.count {
+            return Err(entry);
         }
         self.places.copy_within(i..self.count, i + 1);
         self.places[i] = entry;
@@ -240,6 +239,6 @@ impl DerefSlice for Entries {
     ghost deref_gives = { λ e xs. (xs ≡ e) × (length xs ≤ 25) };
 
     fn deref(&self) -> &[Entry] {
-        self.as_slice()
+        Entries::as_slice(self)
     }
 }
